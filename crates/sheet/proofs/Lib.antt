@@ -1,0 +1,4 @@
+-- Lemmas of this crate.
+pub mod First
+pub mod InOrder
+pub mod Rounding

@@ -1,0 +1,3 @@
+-- Lemmas of this crate.
+pub mod Timings
+pub mod Values

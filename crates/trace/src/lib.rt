@@ -1,0 +1,5 @@
+// Lines of text: hexadecimal digits, fields read from the left, and the sheet line.
+pub mod board; // the sheet and the chip of a sheet line, or why there are none
+pub mod digits; // the value of a digit by a table, and of several
+mod fields; // a field of a line, and the rest that follows
+pub mod sheet_line; // the line that gives a sheet and a chip, as its fields
