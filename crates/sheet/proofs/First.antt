@@ -28,11 +28,12 @@ pub first-is : {X : Type 0} (such : X → Bool) (d : X) (xs : List X) (r : Optio
 first-is such d xs None h = sym (none-at such d xs 0 h)
 first-is such d xs (Some p) h = sym (some-at such d xs 0 p h ∙ ap Some (omega arith))
 
-false-by : (b : Bool) (k : ℕ) (rest : Option ℕ) → cond b (Some k) rest ≡ None → b ≡ false
+-- a search that finds none passes each element, and finds none behind it
+pub false-by : (b : Bool) (k : ℕ) (rest : Option ℕ) → cond b (Some k) rest ≡ None → b ≡ false
 false-by true k rest e = cc
 false-by false k rest e = refl
 
-rest-by : (b : Bool) (k : ℕ) (rest : Option ℕ) → cond b (Some k) rest ≡ None → rest ≡ None
+pub rest-by : (b : Bool) (k : ℕ) (rest : Option ℕ) → cond b (Some k) rest ≡ None → rest ≡ None
 rest-by true k rest e = cc
 rest-by false k rest e = e
 

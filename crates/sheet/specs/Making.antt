@@ -53,7 +53,7 @@ refused-at why (Some place) = Err (why place)
 refused-at why None = Ok tt
 
 -- refused with this number at a place, if there is one; else what follows
-abbrev pub unless-at : ℕ → Option ℕ → Result (List Cycles) Refused → Result (List Cycles) Refused
+abbrev pub unless-at : {X : Type 0} → ℕ → Option ℕ → Result X Refused → Result X Refused
 unless-at number (Some place) rest = Err (record { number = number; place = Some place })
 unless-at number None rest = rest
 

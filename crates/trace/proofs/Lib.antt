@@ -1,3 +1,12 @@
 -- Lemmas of this crate.
+pub mod Correspond
+pub mod Fieldwise
+pub mod Filling
+pub mod Numbers
+pub mod Parts
+pub mod ReadLaws
+pub mod TextLaws
 pub mod Timings
+pub mod Told
 pub mod Values
+pub mod WriteLaws

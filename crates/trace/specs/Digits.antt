@@ -1,8 +1,8 @@
 -- Hexadecimal digits 0 to 9 and A to F, and the number that several stand for.
-use Prim.Native.Nat.{ℕ, _+_, _-_, _*_}
+use Prim.Native.Nat.{ℕ, zero, suc, _+_, _-_, _*_, _/_, _%_, _^_}
 use mathlib.Core.Bool.{cond, _&&_}
 use mathlib.Core.List.{List, [], _∷_}
-use lib.Dec.{leb}
+use lib.Dec.{leb, ltb}
 use Rattle.std.specs.declared.option.Option.{Option}
 use Rattle.std.specs.declared.option.Option.the-variants.{Some, None}
 
@@ -18,3 +18,12 @@ number-after n (b ∷ bs) = cond (leb (digit-value b) 15) (number-after (n * 16 
 -- the number that bytes stand for, the highest digit first, if all are digits
 unfoldable pub number-in : List ℕ → Option ℕ
 number-in bs = number-after 0 bs
+
+-- the byte that stands for a digit's value
+unfoldable pub digit : ℕ → ℕ
+digit n = cond (ltb n 10) (48 + n) (55 + n)
+
+-- the last w digits of a number, the highest first
+unfoldable pub digits : ℕ → ℕ → List ℕ
+digits zero n = []
+digits (suc w) n = digit (n / 16 ^ w % 16) ∷ digits w n

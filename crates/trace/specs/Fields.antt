@@ -1,5 +1,5 @@
 -- Fields of a line, from the left.
-use Prim.Native.Nat.{ℕ}
+use Prim.Native.Nat.{ℕ, _^_, _<_}
 use mathlib.Core.Path.{_≡_}
 use mathlib.Core.Bool.{Bool, false, cond}
 use mathlib.Core.List.{List, [], _∷_}
@@ -24,9 +24,9 @@ field-in w bs = cond (leb w (length bs)) (number-in (take w bs)) None
 abbrev pub with-field : {X : Type 0} → ℕ → List ℕ → (ℕ → List ℕ → Option X) → Option X
 with-field w bs f = and-then (field-in w bs) (λ n. f n (drop w bs))
 
--- an answer of the first field, with the bytes behind it
+-- an answer of the first field, which is a number of so many digits, with the bytes behind it
 abbrev pub Reads : ℕ → List ℕ → Option (ℕ × RefT (List ℕ)) → Type 0
-Reads w bs r = Cases r (field-in w bs ≡ None) (λ p. (field-in w bs ≡ Some (p .0)) × (now (p .1) ≡ drop w bs))
+Reads w bs r = Cases r (field-in w bs ≡ None) (λ p. (field-in w bs ≡ Some (p .0)) × (now (p .1) ≡ drop w bs) × (p .0 < 16 ^ w))
 
 -- a line feed and nothing else
 abbrev pub is-feed : List ℕ → Bool

@@ -1,7 +1,8 @@
 // Hexadecimal digits: the value of one by a table, and the number that several stand for.
 ghost use mathlib.Core.Path.{_≡_};
-ghost use Prim.Native.Nat.{_≤_};
+ghost use Prim.Native.Nat.{_^_, _<_, _≤_};
 ghost use lib.ListN.{length};
+ghost use Rattle.std.specs.Options.{Cases};
 ghost use Rattle.trace.specs.Digits.{digit-value, number-in};
 
 // The value of each byte as a digit: 0 to 9 and A to F, and 255 for every other byte.
@@ -274,7 +275,8 @@ pub fn digit_value(byte: u8) -> u8
 // The number that at most eight digits stand for, the highest first; none where a byte is no digit.
 pub(crate) fn number(digits: &[u8]) -> Option<u32>
     requires { ⌜ length (now digits) ≤ 8 ⌝ }
-    ensures { λ r. ⌜ r ≡ number-in (now (digits .entry)) ⌝ }
+    ensures value { λ r. ⌜ r ≡ number-in (now (digits .entry)) ⌝ }
+    ensures below { λ r. ⌜ Cases r (Unit {0}) (λ n. n < 16 ^ length (now (digits .entry))) ⌝ }
 {
     let mut value = 0;
     for byte in digits {

@@ -14,6 +14,12 @@ macro_rules! first_digits {
     }};
 }
 
+pub(crate) fn one_digit(line: &[u8]) -> Option<(u32, &[u8])>
+    ensures { λ r. ⌜ Reads 1 (now (line .entry)) r ⌝ }
+{
+    first_digits!(line; a)
+}
+
 pub(crate) fn two_digits(line: &[u8]) -> Option<(u32, &[u8])>
     ensures { λ r. ⌜ Reads 2 (now (line .entry)) r ⌝ }
 {
@@ -26,6 +32,12 @@ pub(crate) fn three_digits(line: &[u8]) -> Option<(u32, &[u8])>
     first_digits!(line; a, b, c)
 }
 
+pub(crate) fn four_digits(line: &[u8]) -> Option<(u32, &[u8])>
+    ensures { λ r. ⌜ Reads 4 (now (line .entry)) r ⌝ }
+{
+    first_digits!(line; a, b, c, d)
+}
+
 pub(crate) fn five_digits(line: &[u8]) -> Option<(u32, &[u8])>
     ensures { λ r. ⌜ Reads 5 (now (line .entry)) r ⌝ }
 {
@@ -36,6 +48,12 @@ pub(crate) fn six_digits(line: &[u8]) -> Option<(u32, &[u8])>
     ensures { λ r. ⌜ Reads 6 (now (line .entry)) r ⌝ }
 {
     first_digits!(line; a, b, c, d, e, f)
+}
+
+pub(crate) fn eight_digits(line: &[u8]) -> Option<(u32, &[u8])>
+    ensures { λ r. ⌜ Reads 8 (now (line .entry)) r ⌝ }
+{
+    first_digits!(line; a, b, c, d, e, f, g, h)
 }
 
 // Whether nothing but a line feed is left.

@@ -1,6 +1,7 @@
-use mathlib.Core.Path.{refl, ap, _∙_}
+use mathlib.Core.Path.{_≡_, refl, sym, ap, _∙_}
+use Prim.Native.Nat.{_^_}
 use native.Mathlib.Omega.{arith}
-use borrow.Author.Needs.{needs}
+use lib.ListN.{length}
 use Rattle.std.proofs.shelf.Lists.{at-drop-all}
 use Rattle.trace.specs.Digits.{number-in, number-after}
 use Rattle.trace.proofs.Values.{grows, fits, digit-more, no-digit}
@@ -11,7 +12,10 @@ unfolding number-in
 loop-byte-holds c = (refl, omega arith)
 
 pub returns-then-digit-gt15 : need.returns-then-digit-gt15
-returns-then-digit-gt15 c = no-digit (c .args .digits .now) (c .loop-byte .byte-index) (c .loop-byte .value) (c .digit-value-digit .result) (c .loop-byte-test .taken) (c .digit-value-digit .ensures) (c .if-digit-gt15 .taken) ∙ c .loop-byte .inv .0
+returns-then-digit-gt15 c = record {
+  value = no-digit (c .args .digits .now) (c .loop-byte .byte-index) (c .loop-byte .value) (c .digit-value-digit .result) (c .loop-byte-test .taken) (c .digit-value-digit .ensures) (c .if-digit-gt15 .taken) ∙ c .loop-byte .inv .0;
+  below = tt;
+}
 
 pub mul-value : need.mul-value
 mul-value c = omega (arith, fits (c .loop-byte .value) (c .loop-byte .byte-index) 0 (c .loop-byte .inv .1) (omega arith) (omega arith))
@@ -26,4 +30,10 @@ loop-byte-again c = (
 )
 
 pub returns : need.returns
-returns c = let e = at-drop-all (number-after (c .loop-byte .value)) (c .args .digits .now) (c .loop-byte .byte-index) (c .loop-byte-test .left) in search needs
+returns c =
+    let bs = c .args .digits .now in
+    let all : c .loop-byte .byte-index ≡ length bs = omega arith in
+    record {
+      value = sym (at-drop-all (number-after (c .loop-byte .value)) bs (c .loop-byte .byte-index) (c .loop-byte-test .left)) ∙ c .loop-byte .inv .0;
+      below = omega (arith, ap (λ k. 16 ^ k) all, c .loop-byte .inv .1);
+    }

@@ -13,4 +13,4 @@ returns-in-Break-value c = search needs
 
 pub returns : need.returns
 unfolding field-in
-returns c = (search needs, take-rest (c .args .line .now) 2)
+returns c = (search needs, take-rest (c .args .line .now) 2, search needs)
