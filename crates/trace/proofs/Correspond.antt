@@ -182,7 +182,8 @@ kept : {X : Type 0} (v : Bool) (x y : X) → cond v (Some x) None ≡ Some y →
 kept true x y h = (refl, cc)
 kept false x y h = let z : _≡_ {A = ℕ} 0 1 = cc in absurd (omega arith)
 
-some-same : {X : Type 0} (x y : X) → Some x ≡ Some y → x ≡ y
+-- what stands in two equal options is equal
+pub some-same : {X : Type 0} (x y : X) → Some x ≡ Some y → x ≡ y
 some-same x y h = cc
 
 -- the number of a kind that was known by it
