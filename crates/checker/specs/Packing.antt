@@ -22,8 +22,9 @@ abbrev pub low-part : Result ℕ TextRefusal → ℕ
 low-part (Ok count) = count
 low-part (Err why) = valueOr (text-place why) 0
 
+-- the number, with 48 bits for the low part
 abbrev pub packed : Result ℕ TextRefusal → ℕ
-packed r = refusal-part r * 2 ^ 56 + rule-part r * 2 ^ 48 + low-part r
+packed r = refusal-part r * 2 ^ 56 + rule-part r * 2 ^ 48 + low-part r % 2 ^ 48
 
 -- the number gives back each part
 pub record Gives-back (n : ℕ) (r : Result ℕ TextRefusal) : Type 0 where

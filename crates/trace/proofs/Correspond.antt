@@ -168,17 +168,17 @@ reads-line c h =
     ∙ ap (λ v. cond v (Some c) None) (f .leaves-blank)
 
 -- what was there before something follows of it
-record Came {X Y : Type 0} (o : Option Y) (f : Y → Option X) (x : X) : Type 0 where
-  value : Y
-  is : o ≡ Some value
-  follows : f value ≡ Some x
+pub record Came {X Y : Type 0} (o : Option Y) (f : Y → Option X) (x : X) : Type 0 where
+  pub value : Y
+  pub is : o ≡ Some value
+  pub follows : f value ≡ Some x
 
-came : {X Y : Type 0} (o : Option Y) (f : Y → Option X) (x : X) → and-then o f ≡ Some x → Came o f x
+pub came : {X Y : Type 0} (o : Option Y) (f : Y → Option X) (x : X) → and-then o f ≡ Some x → Came o f x
 came None f x h = let z : _≡_ {A = ℕ} 0 1 = cc in absurd (omega arith)
 came (Some y) f x h = record { value = y; is = refl; follows = h }
 
 -- a value under a condition
-kept : {X : Type 0} (v : Bool) (x y : X) → cond v (Some x) None ≡ Some y → (v ≡ true) × (x ≡ y)
+pub kept : {X : Type 0} (v : Bool) (x y : X) → cond v (Some x) None ≡ Some y → (v ≡ true) × (x ≡ y)
 kept true x y h = (refl, cc)
 kept false x y h = let z : _≡_ {A = ℕ} 0 1 = cc in absurd (omega arith)
 

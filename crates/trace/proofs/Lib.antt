@@ -5,6 +5,7 @@ pub mod Filling
 pub mod Numbers
 pub mod Parts
 pub mod ReadLaws
+pub mod SheetLaws
 pub mod TextLaws
 pub mod Timings
 pub mod Told

@@ -3,7 +3,7 @@ ghost use mathlib.Core.Path.{_≡_};
 ghost use lib.ListN.{drop};
 ghost use Rattle.std.specs.Options.{Cases};
 ghost use Rattle.std.specs.declared.option.Option.the-variants.{Some, None};
-ghost use Rattle.trace.specs.SheetLine.{timing-in, timings-in, sizes-in, sheet-line-in};
+ghost use Rattle.trace.specs.SheetLine.{timing-in, timings-in, sizes-in, sheet-line-in, Sheet-only-so, Sheet-reads-back};
 use crate::fields::five_digits;
 use crate::fields::is_feed;
 use crate::fields::six_digits;
@@ -31,8 +31,16 @@ pub(crate) struct Sizes {
     pub(crate) columns: u32,
 }
 
-// The fields of a sheet line; none where the bytes are no such line.
+// The fields of a sheet line; none where the bytes are no such line. A line is read as fields exactly when it is the text of those fields.
 pub fn read_sheet_line(line: &[u8]) -> Option<SheetLine>
+    ensures value { λ r. ⌜ r ≡ sheet-line-in (now (line .entry)) ⌝ }
+    ensures only_so { λ r. ⌜ Sheet-only-so (now (line .entry)) r ⌝ }
+    ensures reads_back { λ r. ⌜ Sheet-reads-back (now (line .entry)) r ⌝ }
+{
+    read_fields(line)
+}
+
+fn read_fields(line: &[u8]) -> Option<SheetLine>
     ensures { λ r. ⌜ r ≡ sheet-line-in (now (line .entry)) ⌝ }
 {
     let (period, rest) = five_digits(line)?;
