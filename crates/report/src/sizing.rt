@@ -88,7 +88,7 @@ fn stretches_text(heap: Global, sheet: &Sheet, chip: &Chip) -> Result<String, Al
 }
 
 // A refusal, with the place that it carries.
-fn refusal_text(heap: Global, why: BoardRefusal) -> Result<String, AllocError>
+pub(crate) fn refusal_text(heap: Global, why: BoardRefusal) -> Result<String, AllocError>
     ensures { λ r. ⌜ made r (λ t. string-bytes t ≡ refusal-text why) ⌝ }
 {
     let number = why.number();
