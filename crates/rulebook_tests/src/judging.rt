@@ -28,7 +28,7 @@ impl Line {
 }
 
 // The sheet of thirteen counts of cycles.
-pub fn sheet_of(counts: &[u32; 13]) -> Option<Sheet> {
+pub(crate) fn sheet_of(counts: &[u32; 13]) -> Option<Sheet> {
     let none = Timing {
         length: Picoseconds::new(0),
         least: Cycles::new(0),
@@ -44,7 +44,7 @@ pub fn sheet_of(counts: &[u32; 13]) -> Option<Sheet> {
 }
 
 // Takes the lines in; the place of the first one refused, from 0, and the number of the rule that it breaks.
-pub fn first_refused(
+pub(crate) fn first_refused(
     book: &mut Book,
     sheet: &Sheet,
     chip: &Chip,
