@@ -1,0 +1,26 @@
+-- Lemmas of this crate.
+pub mod Lists
+pub mod Stretches
+pub mod Steps
+pub mod Stages
+pub mod Offers
+pub mod Running
+pub mod Serving
+pub mod Logs
+pub mod Ledger
+pub mod Told
+pub mod Sending
+pub mod Accepting
+pub mod Logged
+pub mod Kept
+pub mod Spans
+pub mod Counted
+pub mod Turning
+pub mod Reached
+pub mod Frames
+pub mod Views
+pub mod Followed
+pub mod Apart
+pub mod Answering
+pub mod Promised
+pub mod Example
