@@ -1,4 +1,6 @@
 // The checker: it judges traces by the rule book alone, and never sees a controller.
+#![tactic(auto)]
+
 pub mod judging; // judging a trace as text, by a sheet line
 pub mod packing; // the answer as one number, and the entry for C
 pub mod records; // judging command records

@@ -1,4 +1,6 @@
 // Reads one sheet line and the trace behind it, and prints what the checker finds: a line for people, and the packed answer as the last line.
+#![tactic(auto)]
+
 use report::judging::judging_text;
 use std::io;
 use std::io::Read;

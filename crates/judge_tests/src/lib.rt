@@ -1,4 +1,6 @@
 // Worked examples of what is told of a trace.
+#![tactic(auto)]
+
 #[cfg(test)]
 mod broken; // rules that are broken, with the two cycles where the rule is a gap
 #[cfg(test)]

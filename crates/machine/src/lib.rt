@@ -1,4 +1,6 @@
 // The machine and its promises. Nothing runs here: each contract is a theorem about every chain of offers and ticks, refusals included, for every accepted sheet, chip, last cycle and policy that fits.
+#![tactic(auto)]
+
 ghost use Rattle.machine.specs.Promises.{WithinTheRules, AccountedFor, NumbersApart, CellsApart, ServedOnceInTime, DeadlinesNear, NumbersSmall, ApartFromOthers, OneAFrame, KeepsItsPromises};
 ghost use Rattle.machine.specs.Spans.{InSpan};
 ghost use Rattle.machine.specs.Answering.{AlwaysAnswers};

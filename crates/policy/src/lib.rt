@@ -1,4 +1,6 @@
 // Policies: who is served next, and by which cycle at the latest. One trait with its laws, two orders of service, and a layer over any policy.
+#![tactic(auto)]
+
 pub mod contract; // the policy trait: meaning, laws and calls
 pub mod entry; // requests, and entries that wait with their deadlines
 pub mod first_come; // entries served in the order in which they came

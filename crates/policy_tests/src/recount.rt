@@ -1,5 +1,6 @@
 // What waits, kept apart from any policy: a bag of entries in no order, over which every point is counted anew.
 use policy::Entry;
+use std::process::Abort;
 use std::test::*;
 
 // What a run is made for.
@@ -82,12 +83,12 @@ impl Bag {
     }
 
     // Place j has a deadline of at least base + (j + 1) spans.
-    pub(crate) fn leaves_room(&self, base: u64, span: u32) -> Result<(), Fail> {
+    pub(crate) fn leaves_room(&self, rt: &impl Abort, base: u64, span: u32) -> Result<(), Fail> {
         for kept in &self.entries {
             if let Some(entry) = kept {
                 let spans = self.place(*entry).saturating_add(1);
                 let least = base.saturating_add(spans.saturating_mul(u64::from(span)));
-                assert!(least <= entry.deadline);
+                assert!(rt; least <= entry.deadline);
             }
         }
         Ok(())
@@ -105,8 +106,8 @@ impl Bag {
     }
 
     // The entry was the first in the order of service, and leaves.
-    pub(crate) fn take_first(&mut self, first: Entry) -> Result<(), Fail> {
-        assert_eq!(self.place(first), 0);
+    pub(crate) fn take_first(&mut self, rt: &impl Abort, first: Entry) -> Result<(), Fail> {
+        assert_eq!(rt; self.place(first), 0);
         for kept in self.entries.iter_mut() {
             if let Some(entry) = *kept {
                 if is_same(entry, first) {

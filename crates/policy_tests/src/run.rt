@@ -110,7 +110,7 @@ fn offered<P: Policy>(
                 bank,
                 ..entry
             })?;
-            bag.leaves_room(base, setup.span)?;
+            bag.leaves_room(rt, base, setup.span)?;
             Ok(true)
         }
     }
@@ -129,13 +129,13 @@ fn turned<P: Policy>(
     let given = policy.turn(clock);
     assert_eq!(rt; policy.clock(), clock);
     let Some(entry) = given else {
-        bag.leaves_room(now, setup.span)?;
+        bag.leaves_room(rt, now, setup.span)?;
         return Ok(None);
     };
-    bag.take_first(entry)?;
+    bag.take_first(rt, entry)?;
     let base = now.saturating_add(u64::from(setup.span)).saturating_sub(1);
     assert!(rt; base <= entry.deadline);
-    bag.leaves_room(base, setup.span)?;
+    bag.leaves_room(rt, base, setup.span)?;
     if policy.is_holding() {
         assert_eq!(rt; entry.deadline, base);
         return Ok(Some(Service { base, last: base }));

@@ -1,4 +1,6 @@
 // Worked values, proved of the definitions that the contracts of the running calls cite. Nothing runs here.
+#![tactic(auto)]
+
 ghost use Rattle.readings.specs.Stand.{ReadingsStand};
 
 // Every worked value stands.

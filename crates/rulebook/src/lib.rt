@@ -1,4 +1,6 @@
 // The rule book of a DDR3 chip: commands, sixteen rules over a whole trace, and a record that keeps only what the rules still need of it.
+#![tactic(auto)]
+
 mod bank; // what is kept of one bank, and of the last four activates
 pub mod book; // the compact record of a trace: taking a command in, or naming the smallest rule that it breaks
 pub mod command; // the kinds of command, and a command

@@ -1,4 +1,6 @@
 // The timing sheet and the chip: what a board designer gives, what is accepted of it, and the longest time that one service can take.
+#![tactic(auto)]
+
 pub mod accepted; // an accepted sheet: thirteen timings in cycles, within their limits for good
 pub mod geometry; // the chip: how many banks, rows and columns it has
 pub mod given; // one timing as a data sheet gives it

@@ -1,4 +1,6 @@
 // Worked examples of the sheet, the chip, the sheet line and what is printed of it.
+#![tactic(auto)]
+
 #[cfg(test)]
 mod lines; // sheet lines
 #[cfg(test)]

@@ -1,4 +1,6 @@
 // Reads one sheet line and prints its timings in cycles, the three stretches and the span, or why it is refused.
+#![tactic(auto)]
+
 use report::sizing::sizing_text;
 use std::io;
 use std::io::Read;

@@ -1,4 +1,6 @@
 // Lines of text: hexadecimal digits, fields read from the left, trace lines read and written, and the sheet line.
+#![tactic(auto)]
+
 pub mod board; // the sheet and the chip of a sheet line, or why there are none
 pub mod cutting; // text as lines, cut every 27 bytes
 pub mod digits; // the value of a digit by a table, and of several

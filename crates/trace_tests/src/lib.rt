@@ -1,4 +1,6 @@
 // Worked examples of trace lines, read and written.
+#![tactic(auto)]
+
 #[cfg(test)]
 mod forms; // one line: each byte at each place, and what each kind leaves 0
 #[cfg(test)]

@@ -16,9 +16,9 @@ use rulebook::Kind;
 impl<P: Policy> Session<P> {
     // Takes the request in and answers its number and deadline, as a step of the machine. A refusal leaves the session as it was.
     pub fn offer(&mut self, request: Request) -> Result<Receipt, OfferRefusal>
-        ensures refusal { offer_refused result ≡ offer_refusal (machine meaning self.old []) request }
+        ensures refusal { offer_refused result ≡ offer_refusal (machine P.meaning self.old []) request }
         ensures kept { UnlessRefused result self.old self.new }
-        ensures steps { Carries meaning sound self.old (offered request) (offer_answer result) self.new (λ h. h) }
+        ensures steps { Carries P.meaning P.sound self.old (offered request) (offer_answer result) self.new (λ h. h) }
     {
         let kind = self.wanted(request)?;
         take_in(
@@ -33,7 +33,7 @@ impl<P: Policy> Session<P> {
 
     // What the request asks for, or the first reason against it that is not the policy's.
     fn wanted(&self, request: Request) -> Result<Kind, OfferRefusal>
-        ensures { result ≡ wanted (machine meaning self.now []) request }
+        ensures { result ≡ wanted (machine P.meaning self.now []) request }
     {
         if request.requester >= self.policy.requesters() {
             return Err(OfferRefusal::Requester);
@@ -57,7 +57,7 @@ fn take_in<P: Policy>(
     request: Request,
     kind: Kind,
 ) -> Result<Receipt, OfferRefusal>
-    ensures { TakesIn meaning sound clock (service_of stage) request kind policy.old counts.old result policy.new counts.new }
+    ensures { TakesIn P.meaning P.sound clock (service_of stage) request kind policy.old counts.old result policy.new counts.new }
 {
     let number = counts.of(request.requester);
     let base = base_at(clock, policy.span(), stage);

@@ -18,7 +18,7 @@ impl<P: Policy> Session<P> {
         policy: P,
         last: u32,
     ) -> Result<Session<P>, (OpeningRefusal, P)>
-        ensures { MatchResult result (λ s. Opens meaning sound sheet chip last policy s) (λ e. HandsBack meaning sheet chip last policy e.0 e.1) }
+        ensures { MatchResult result (λ s. Opens P.meaning P.sound sheet chip last policy s) (λ e. HandsBack P.meaning sheet chip last policy e.0 e.1) }
     {
         if let Some(why) = refusal(&sheet, &chip, &policy, last) {
             return Err((why, policy));
@@ -37,7 +37,7 @@ impl<P: Policy> Session<P> {
 
 // The first reason against opening, if there is one.
 fn refusal<P: Policy>(sheet: &Sheet, chip: &Chip, policy: &P, last: u32) -> Option<OpeningRefusal>
-    ensures number { opening_refused result ≡ opening_refusal sheet.now chip.now last (meaning policy.now) }
+    ensures number { opening_refused result ≡ opening_refusal sheet.now chip.now last (P.meaning policy.now) }
 {
     if policy.span() != sheet.span(chip).count() || u32::from(policy.banks()) != chip.banks {
         return Some(OpeningRefusal::Shape);

@@ -13,9 +13,9 @@ use rulebook::Command;
 impl<P: Policy> Session<P> {
     // Passes one cycle and answers its command, or none, as a step of the machine. A refusal leaves the session as it was.
     pub fn tick(&mut self) -> Result<Option<Command>, TickRefusal>
-        ensures refusal { tick_refused result ≡ tick_refusal (machine meaning self.old []) }
+        ensures refusal { tick_refused result ≡ tick_refusal (machine P.meaning self.old []) }
         ensures kept { UnlessRefused result self.old self.new }
-        ensures steps { Carries meaning sound self.old ticked (tick_answer result) self.new (λ h. sent_after h result) }
+        ensures steps { Carries P.meaning P.sound self.old ticked (tick_answer result) self.new (λ h. sent_after h result) }
     {
         if self.clock > self.last {
             return Err(TickRefusal::Over);
@@ -26,7 +26,7 @@ impl<P: Policy> Session<P> {
     // Passes one of the cycles that are left.
     fn pass(&mut self) -> Option<Command>
         requires { self.old.clock ≤ self.old.last }
-        ensures { Passes meaning sound self.old result self.new }
+        ensures { Passes P.meaning P.sound self.old result self.new }
     {
         begin(&mut self.engine.stage, &mut self.policy, self.clock);
         let holds = self.policy.is_holding();
@@ -38,7 +38,7 @@ impl<P: Policy> Session<P> {
 
 // With nothing in service, asks the policy for a turn in this cycle; what it gives goes into service.
 fn begin<P: Policy>(stage: &mut Stage, policy: &mut P, clock: u32)
-    ensures { Begins meaning sound clock stage.old policy.old stage.new policy.new }
+    ensures { Begins P.meaning P.sound clock stage.old policy.old stage.new policy.new }
 {
     if let Stage::Idle = *stage {
         *stage = stage_of(policy.turn(clock), clock);

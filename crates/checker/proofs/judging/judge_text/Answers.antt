@@ -3,5 +3,5 @@ use Rattle.checker.proofs.judging.judge_text.Goals as goal
 
 pub returns : goal.returns
 returns c =
-    let judged = c.judge-by-line.ensures in
-    record { judged = judged; small = small c.args.sheet-line.now c.args.text.now c.judge-by-line.result judged }
+    let judged = c.judge_by_line.ensures in
+    record { judged = judged; small = small c.args.sheet_line.now c.args.text.now c.judge_by_line.result judged }

@@ -18,7 +18,7 @@ returns-in-Err c =
 
 pub loop-line-preserved : goal.loop-line-preserved
 loop-line-preserved c =
-    let j = c.in-default.ensures in
+    let j = c.in_default.ensures in
     admitted_at c.args.sheet.now c.args.chip.now c.args.records.now c.loop-line.line _ c.loop-line.book _ _ c.loop-line-test.true c.loop-line.invariant j.0 j.1
 
 pub returns : goal.returns

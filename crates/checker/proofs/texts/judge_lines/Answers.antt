@@ -19,8 +19,8 @@ returns-in-Err c =
     let k = c.args.chip.now in
     let b = c.loop-line.book in
     let line = c.loop-line.line in
-    let judged = subst (λ (bs : List ℕ). JudgedLine s k b line bs (Err c.in-Err.why) c.judge-line.new.book) c.line-at.ensures.value c.in-Err.ensures in
-    line_refused s k c.args.text.now line b _ c.in-Err.why (omega (arith, c.line-count-count.ensures.value)) c.loop-line.invariant judged
+    let judged = subst (λ (bs : List ℕ). JudgedLine s k b line bs (Err c.in-Err.why) c.judge_line.new.book) c.line_at.ensures.value c.in-Err.ensures in
+    line_refused s k c.args.text.now line b _ c.in-Err.why (omega (arith, c.line_count-count.ensures.value)) c.loop-line.invariant judged
 
 pub loop-line-preserved : goal.loop-line-preserved
 loop-line-preserved c =
@@ -28,15 +28,15 @@ loop-line-preserved c =
     let k = c.args.chip.now in
     let b = c.loop-line.book in
     let line = c.loop-line.line in
-    let within : c.loop-line.line < length (lines_of c.args.text.now) = omega (arith, c.line-count-count.ensures.counts) in
-    let judged = subst (λ (bs : List ℕ). JudgedLine s k b line bs (Ok tt) c.judge-line.new.book) (c.line-at.ensures.nth within) c.in-default.ensures in
+    let within : c.loop-line.line < length (lines_of c.args.text.now) = omega (arith, c.line_count-count.ensures.counts) in
+    let judged = subst (λ (bs : List ℕ). JudgedLine s k b line bs (Ok tt) c.judge_line.new.book) (c.line_at.ensures.nth within) c.in_default.ensures in
     line_more s k (lines_of c.args.text.now) line b _ tt within c.loop-line.invariant judged
 
 pub returns : goal.returns
 returns c =
     let lines = lines_of c.args.text.now in
-    let all = take_all c.loop-line.line lines (omega (arith, c.line-count-count.ensures.counts)) in (
-      c.line-count-count.ensures.value,
+    let all = take_all c.loop-line.line lines (omega (arith, c.line_count-count.ensures.counts)) in (
+      c.line_count-count.ensures.value,
       (
         map command_at (take c.loop-line.line lines),
         subst (λ (t : List (List ℕ)). LawfulLines c.args.sheet.now c.args.chip.now t (map command_at (take c.loop-line.line lines))) all c.loop-line.invariant.lawful,

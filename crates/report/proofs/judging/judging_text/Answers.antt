@@ -7,8 +7,8 @@ pub returns-in-Some : goal.returns-in-Some
 returns-in-Some c =
     let input = c.args.input.now in
     let parts = c.in-Some.ensures in
-    let by-text = subst (λ (x : List ℕ). IfOk c.told-text.result (λ t. JudgedAloud c.in-Some.sheet-line.now x (string_bytes t))) parts.1 c.told-text.ensures in
-    subst (λ (x : List ℕ). IfOk c.told-text.result (λ t. JudgedAloud x (drop 120 input) (string_bytes t))) parts.0 by-text
+    let by_text = subst (λ (x : List ℕ). IfOk c.told_text.result (λ t. JudgedAloud c.in-Some.sheet_line.now x (string_bytes t))) parts.1 c.told_text.ensures in
+    subst (λ (x : List ℕ). IfOk c.told_text.result (λ t. JudgedAloud x (drop 120 input) (string_bytes t))) parts.0 by_text
 
 pub returns-in-None : goal.returns-in-None
 returns-in-None c =
@@ -16,5 +16,5 @@ returns-in-None c =
     let short = c.in-None.ensures in
     let whole = sym (take_all 120 input (omega arith)) in
     let rest = sym (drop_all 120 input (omega arith)) in
-    let by-text = subst (λ (x : List ℕ). IfOk c.told-text_in-None.result (λ t. JudgedAloud input x (string_bytes t))) rest c.told-text_in-None.ensures in
-    subst (λ (x : List ℕ). IfOk c.told-text_in-None.result (λ t. JudgedAloud x (drop 120 input) (string_bytes t))) whole by-text
+    let by_text = subst (λ (x : List ℕ). IfOk c.told_text-in-None.result (λ t. JudgedAloud input x (string_bytes t))) rest c.told_text-in-None.ensures in
+    subst (λ (x : List ℕ). IfOk c.told_text-in-None.result (λ t. JudgedAloud x (drop 120 input) (string_bytes t))) whole by_text

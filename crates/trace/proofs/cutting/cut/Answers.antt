@@ -3,8 +3,8 @@ use Rattle.std.proofs.lemmas.List.{take_rest, take_all, drop_all}
 use Rattle.trace.proofs.TextLaws.{outside}
 use Rattle.trace.proofs.cutting.cut.Goals as goal
 
-pub returns-then-k-lines-in : goal.returns-then-k-lines-in
-returns-then-k-lines-in c =
+pub returns-then-k-lines_in : goal.returns-then-k-lines_in
+returns-then-k-lines_in c =
     let text = c.args.text.now in
     let k = c.args.k in
     let past : length c.args.text.now ≤ 27 * c.args.k = outside (length text) k (omega arith) in

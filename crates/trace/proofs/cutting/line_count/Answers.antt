@@ -3,4 +3,4 @@ use Rattle.trace.proofs.TextLaws.{length_lines}
 use Rattle.trace.proofs.cutting.line_count.Goals as goal
 
 pub returns : goal.returns
-returns c = record { value = c.lines-in.ensures; counts = c.lines-in.ensures ∙ sym (length_lines c.args.text.now) }
+returns c = record { value = c.lines_in.ensures; counts = c.lines_in.ensures ∙ sym (length_lines c.args.text.now) }

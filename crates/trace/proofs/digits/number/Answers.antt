@@ -10,19 +10,19 @@ loop-byte-init c = (refl, omega arith)
 
 pub returns-then-digit-gt15 : goal.returns-then-digit-gt15
 returns-then-digit-gt15 c = record {
-  value = no_digit c.args.digits.now c.loop-byte.byte-index c.loop-byte.value c.digit-value-digit.result c.loop-byte-test.true c.digit-value-digit.ensures c.if-digit-gt15.true ∙ c.loop-byte.invariant.0;
+  value = no_digit c.args.digits.now c.loop-byte.byte-index c.loop-byte.value c.digit_value-digit.result c.loop-byte-test.true c.digit_value-digit.ensures c.if-digit-gt15.true ∙ c.loop-byte.invariant.0;
   below = tt;
 }
 
-pub overflow-mul-value : goal.overflow-mul-value
-overflow-mul-value c = omega (arith, fits c.loop-byte.value c.loop-byte.byte-index 0 c.loop-byte.invariant.1 (omega arith) (omega arith))
+pub overflow_mul-value : goal.overflow_mul-value
+overflow_mul-value c = omega (arith, fits c.loop-byte.value c.loop-byte.byte-index 0 c.loop-byte.invariant.1 (omega arith) (omega arith))
 
-pub overflow-add-value : goal.overflow-add-value
-overflow-add-value c = omega (arith, fits c.loop-byte.value c.loop-byte.byte-index c.from.result c.loop-byte.invariant.1 (omega arith) (omega arith))
+pub overflow_add-value : goal.overflow_add-value
+overflow_add-value c = omega (arith, fits c.loop-byte.value c.loop-byte.byte-index c.from.result c.loop-byte.invariant.1 (omega arith) (omega arith))
 
 pub loop-byte-preserved : goal.loop-byte-preserved
 loop-byte-preserved c = (
-  digit_more c.args.digits.now c.loop-byte.byte-index c.loop-byte.value c.from.result c.loop-byte-test.true (c.from.ensures ∙ c.digit-value-digit.ensures) (omega arith) ∙ c.loop-byte.invariant.0,
+  digit_more c.args.digits.now c.loop-byte.byte-index c.loop-byte.value c.from.result c.loop-byte-test.true (c.from.ensures ∙ c.digit_value-digit.ensures) (omega arith) ∙ c.loop-byte.invariant.0,
   grows c.loop-byte.value c.loop-byte.byte-index c.from.result c.loop-byte.invariant.1 (omega arith),
 )
 

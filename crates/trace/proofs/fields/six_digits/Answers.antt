@@ -3,13 +3,13 @@ use Rattle.std.proofs.lemmas.List.{take_rest}
 use Rattle.trace.specs.Fields.{field_in}
 use Rattle.trace.proofs.fields.six_digits.Goals as goal
 
-pub returns-in-default : goal.returns-in-default
+pub returns-in_default : goal.returns-in_default
 unfolding field_in
-returns-in-default c = search rules
+returns-in_default c = search rules
 
-pub returns-in-err-value : goal.returns-in-err-value
+pub returns-in_err-value : goal.returns-in_err-value
 unfolding field_in
-returns-in-err-value c = search rules
+returns-in_err-value c = search rules
 
 pub returns : goal.returns
 unfolding field_in

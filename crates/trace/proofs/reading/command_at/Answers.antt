@@ -4,4 +4,4 @@ use Rattle.trace.proofs.reading.command_at.Goals as goal
 
 pub returns : goal.returns
 unfolding command_at
-returns c = c.unwrap-or.ensures ∙ ap (λ o. unwrap_or o no_command) c.read-line.ensures
+returns c = c.unwrap_or.ensures ∙ ap (λ o. unwrap_or o no_command) c.read_line.ensures

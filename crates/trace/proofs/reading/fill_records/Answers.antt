@@ -10,7 +10,7 @@ loop-k-preserved c =
     let k = c.loop-k.k in
     let within : c.loop-k.k < length (lines_of c.args.text.now) = omega arith in
     fills_more command_at lines c.args.records.now c.loop-k.records k [] c.command_at.result within (omega arith) c.loop-k.invariant
-    (c.command_at.ensures ∙ ap command_at (c.line-at.ensures.nth within))
+    (c.command_at.ensures ∙ ap command_at (c.line_at.ensures.nth within))
 
 pub returns : goal.returns
 returns c =

@@ -4,4 +4,4 @@ use Rattle.trace.specs.Text.{lines_of, malformed}
 use Rattle.trace.proofs.reading.first_malformed.Goals as goal
 
 pub returns : goal.returns
-returns c = first_is malformed [] (lines_of c.args.text.now) c.find-malformed.result c.find-malformed.ensures
+returns c = first_is malformed [] (lines_of c.args.text.now) c.find_malformed.result c.find_malformed.ensures

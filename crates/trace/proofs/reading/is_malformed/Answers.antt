@@ -4,4 +4,4 @@ use Rattle.trace.proofs.reading.is_malformed.Goals as goal
 
 pub returns : goal.returns
 unfolding malformed
-returns c = ap not c.is-some.ensures ∙ ap (λ o. not (is_some o)) c.read-line.ensures
+returns c = ap not c.is_some.ensures ∙ ap (λ o. not (is_some o)) c.read_line.ensures

@@ -3,9 +3,9 @@ use Rattle.trace.proofs.writing.write_lines.Goals as goal
 
 pub returns : goal.returns
 returns c =
-    let wrote = c.write-checked.ensures in
+    let wrote = c.write_checked.ensures in
     record {
       answer = wrote.answer;
       contents = wrote.contents;
-      text = written_so c.args.commands.now c.write-checked.result c.args.out.now _ wrote.answer wrote.contents;
+      text = written_so c.args.commands.now c.write_checked.result c.args.out.now _ wrote.answer wrote.contents;
     }

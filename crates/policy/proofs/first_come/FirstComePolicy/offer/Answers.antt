@@ -9,8 +9,8 @@ pub returns : goal.returns
 returns c =
     let room = c.args.self.now.room in
     let entry = c.args.entry in
-    let left : place_left room entry.requester ≡ true = sym c.has-place.ensures ∙ c.if-not-has-place.false in record {
+    let left : place_left room entry.requester ≡ true = sym c.has_place.ensures ∙ c.if-not-has_place.false in record {
       refused = ltb-true _ _ left;
-      taken = first_taken room c.join.new.self c.args.clock c.args.base c.len-place.result (due_by entry c.deadline-from-deadline.result) c.due.result
-          (omega arith) left c.len-place.ensures c.due.ensures c.join.ensures c.deadline-from-deadline.ensures;
+      taken = first_taken room c.join.new.self c.args.clock c.args.base c.len-place.result (due_by entry c.deadline_from-deadline.result) c.due.result
+          (omega arith) left c.len-place.ensures c.due.ensures c.join.ensures c.deadline_from-deadline.ensures;
     }

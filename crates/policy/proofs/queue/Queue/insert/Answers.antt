@@ -5,10 +5,10 @@ use Rattle.policy.proofs.queue.Queue.insert.Goals as goal
 
 pub returns : goal.returns
 returns c =
-    insertion c.args.self.now.items c.args.place c.args.self.now.len _ c.args.entry _ c.rotate-right.new.self
+    insertion c.args.self.now.items c.args.place c.args.self.now.len _ c.args.entry _ c.rotate_right.new.self
     (omega (arith, room c.args.self.now.len c.args.self.now.items c.requires.0, bound c.args.self.now.len c.args.self.now.items c.requires.1))
     (omega (arith, room c.args.self.now.len c.args.self.now.items c.requires.0))
-    refl refl c.rotate-right.ensures.after
+    refl refl c.rotate_right.ensures.after
 
-pub invariant-of-self : goal.invariant-of-self
-invariant-of-self c = search (rules, places)
+pub invariant_of-self : goal.invariant_of-self
+invariant_of-self c = search (rules, places)

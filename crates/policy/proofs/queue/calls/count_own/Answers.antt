@@ -5,7 +5,7 @@ use Rattle.policy.proofs.queue.calls.count_own.Goals as goal
 
 pub loop-entry-preserved : goal.loop-entry-preserved
 loop-entry-preserved c = (
-  count_more (λ (e : Entry). eqb e.requester c.args.requester) c.args.entries.now c.loop-entry.entry-index _ c.loop-entry.count c.one-if-count.result (omega arith) c.loop-entry.invariant.0 c.one-if-count.ensures.value,
+  count_more (λ (e : Entry). eqb e.requester c.args.requester) c.args.entries.now c.loop-entry.entry-index _ c.loop-entry.count c.one_if-count.result (omega arith) c.loop-entry.invariant.0 c.one_if-count.ensures.value,
   omega arith,
 )
 

@@ -13,9 +13,9 @@ insert-requires c =
     let less : length (waiting self.queue) < n * q = room_left n q c.args.entry (waiting self.queue) self.few (ltb-true _ _ c.requires.0) in
     (omega (arith, mul-le n q 16 8 (omega arith) (omega arith)), c.requires.1)
 
-pub invariant-of-self : goal.invariant-of-self
-invariant-of-self c =
-    let self = c.args.self.now in (
-      still_few self.numbers.requesters self.numbers.places c.args.place (waiting self.queue) _ c.args.entry self.few (ltb-true _ _ c.requires.0) c.insert.ensures,
-      ((λ z. absurd (omega (arith, c.noted-self.ensures))), tt),
-    )
+pub invariant_of-self : goal.invariant_of-self
+invariant_of-self c =
+    let self = c.args.self.now in record {
+      few = still_few self.numbers.requesters self.numbers.places c.args.place (waiting self.queue) _ c.args.entry self.few (ltb-true _ _ c.requires.0) c.insert.ensures;
+      fresh = λ z. absurd (omega (arith, c.noted-self.ensures));
+    }
