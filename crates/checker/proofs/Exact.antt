@@ -10,7 +10,7 @@ use Rattle.trace.specs.Line.{proper, command_in}
 use Rattle.trace.specs.Text.{no_command, AllProper}
 use Rattle.trace.proofs.Correspond.{some_same}
 use Rattle.trace.proofs.TextLaws.{head_same, tail_same}
-use Rattle.checker.specs.Judging.{Breaks, Clean, LawfulLines, Unlawful}
+use Rattle.checker.specs.Judging.{Breaks, Clean, Unlawful}
 
 -- each of proper commands is proper
 proper_at : (cs : List Command) (i : ℕ) → AllProper cs → i < length cs → proper (get_or cs i no_command) ≡ true

@@ -1,17 +1,17 @@
 -- One line more.
-use Rattle.std.proofs.Common.{◌≡◌, ℕ, ◌+◌, ◌<◌, List, [], ◌∷◌, ◌++◌, map, length, get_or, take, Some, None, Ok, Err, sym, refl, ap, ◌∙◌, subst, arith}
+use Rattle.std.proofs.Common.{◌≡◌, ℕ, ◌+◌, ◌<◌, List, [], ◌∷◌, ◌++◌, map, length, get_or, take, Some, Ok, Err, sym, ap, ◌∙◌, subst, arith}
 use Rattle.std.proofs.lemmas.List.{map_more, map-append}
 use Rattle.sheet.specs.declared.accepted.Sheet.{Sheet}
 use Rattle.sheet.specs.declared.geometry.Chip.{Chip}
 use Rattle.rulebook.specs.Book.{Obeys}
-use Rattle.rulebook.specs.Summary.{Summarises, Judges}
+use Rattle.rulebook.specs.Summary.{Summarises}
 use Rattle.rulebook.specs.declared.command.Command.{Command}
 use Rattle.rulebook.specs.declared.book.Book.{Book}
 use Rattle.trace.specs.Line.{command_in}
 use Rattle.trace.specs.Text.{line_at, line_count, lines_of, command_at}
 use Rattle.trace.proofs.TextLaws.{length_lines, getD_lines}
 use Rattle.trace.proofs.ReadLaws.{known_command}
-use Rattle.checker.specs.Judging.{Breaks, LawfulLines, JudgedLine, JudgedLines}
+use Rattle.checker.specs.Judging.{LawfulLines, JudgedLine, JudgedLines}
 use Rattle.checker.specs.declared.refusals.TextRefusal.{TextRefusal}
 use Rattle.checker.specs.declared.refusals.TextRefusal.TheVariants.{TooLong, Board, Malformed, Broken}
 use Rattle.checker.proofs.Exact.{malformed_fails, line_fails}

@@ -1,8 +1,8 @@
 -- A refusal of a sheet line carries a place below 13, and a line or count of a text is small.
-use Rattle.std.proofs.Common.{◌≡◌, ℕ, zero, suc, ◌+◌, ◌^◌, ◌<◌, ◌≤◌, Bool, true, false, cond, ltb, List, [], ◌∷◌, length, drop, Some, None, Ok, Err, MatchBool, Option, Result, unwrap_or, sym, refl, ap, ◌∙◌, subst, arith, ltb-false, ltb-true}
+use Rattle.std.proofs.Common.{◌≡◌, ℕ, zero, suc, ◌+◌, ◌^◌, ◌<◌, ◌≤◌, Bool, true, false, cond, ltb, List, [], ◌∷◌, length, drop, Some, None, Ok, Err, MatchBool, Option, Result, unwrap_or, sym, refl, ap, ◌∙◌, subst, arith, ltb-false}
 use Rattle.sheet.specs.First.{first_from, first_place}
-use Rattle.sheet.specs.Given.{over_limit, value_at, value_outside}
-use Rattle.sheet.specs.Making.{Refused, refused, unless_at, late, sheet_made, chip_made, Sizes}
+use Rattle.sheet.specs.Given.{over_limit, value_outside}
+use Rattle.sheet.specs.Making.{Refused, refused, unless_at, late, sheet_made, Sizes}
 use Rattle.sheet.specs.Units.{within}
 use Rattle.sheet.specs.declared.units.Cycles.{Cycles}
 use Rattle.sheet.specs.declared.given.Timing.{Timing}
@@ -14,7 +14,7 @@ use Rattle.trace.specs.declared.board.Board.{Board as ReadBoard}
 use Rattle.trace.specs.declared.board.BoardRefusal.{BoardRefusal}
 use Rattle.trace.specs.declared.sheet_line.SheetLine.{SheetLine}
 use Rattle.trace.proofs.Correspond.{some_same}
-use Rattle.checker.specs.Judging.{JudgedLines, JudgedBy, JudgedText}
+use Rattle.checker.specs.Judging.{JudgedBy, JudgedText}
 use Rattle.checker.specs.Packing.{low_part}
 use Rattle.checker.specs.declared.refusals.TextRefusal.{TextRefusal}
 use Rattle.checker.specs.declared.refusals.TextRefusal.TheVariants.{TooLong, Board, Malformed, Broken}

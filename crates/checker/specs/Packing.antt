@@ -1,5 +1,5 @@
 -- An answer as one number: refusal × 2^56 + rule × 2^48 + line, place or count; absent parts are 0.
-use Rattle.std.specs.Prelude.{◌≡◌, ℕ, ◌+◌, ◌*◌, ◌/◌, ◌%◌, ◌^◌, ◌<◌, Ok, Err, Result}
+use Rattle.std.specs.Prelude.{◌≡◌, ℕ, ◌+◌, ◌*◌, ◌/◌, ◌%◌, ◌^◌, Ok, Err, Result}
 use Rattle.std.specs.Option.{unwrap_or}
 use Rattle.checker.specs.Refusals.{text_number, text_place, text_rule}
 use Rattle.checker.specs.declared.refusals.TextRefusal.{TextRefusal}

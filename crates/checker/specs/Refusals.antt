@@ -1,7 +1,6 @@
 -- The checker's refusals by number, and what they carry.
 use Rattle.std.specs.Prelude.{ℕ, Some, None, Option}
 use Rattle.rulebook.specs.Book.{rule_number}
-use Rattle.rulebook.specs.declared.rule.Rule.{Rule}
 use Rattle.trace.specs.Board.{board_number, board_place}
 use Rattle.checker.specs.declared.refusals.RecordRefusal.{RecordRefusal}
 use Rattle.checker.specs.declared.refusals.RecordRefusal.TheVariants.{Improper, Broken as RecordBroken}

@@ -1,5 +1,5 @@
 -- What is known of a machine that calls lead to.
-use Rattle.std.proofs.Common.{◌≡◌, ℕ, ◌+◌, ◌<◌, ◌≤◌, List, [], ◌∷◌, ◌++◌, sym, refl, subst, arith}
+use Rattle.std.proofs.Common.{ℕ, ◌<◌, ◌≤◌, List, [], ◌∷◌, ◌++◌, sym, refl, subst, arith}
 use Rattle.machine.specs.Machine.{Machine, opened, Step, Exchange, Chain}
 use Rattle.machine.specs.Spans.{WithinSpan}
 use Rattle.machine.proofs.Logged.{Logged, logged}

@@ -1,7 +1,6 @@
 -- What the engine sends is what goes out of the machine.
 use Rattle.std.proofs.Common.{◌≡◌, ℕ, ◌<◌, Bool, true, false, cond, not, ◌&&◌, eqb, ltb, List, [], ◌∷◌, ◌++◌, get_or, Some, None, Option, sym, refl, ap, ◌∙◌, subst, arith}
 use Rattle.std.proofs.lemmas.Bool.{eqb-true, eqb-false, and_parts, not-true, not-false, lt-ltb, cond-true}
-use Rattle.sheet.specs.declared.accepted.Sheet.{Sheet}
 use Rattle.sheet.specs.declared.geometry.Chip.{Chip}
 use Rattle.rulebook.specs.declared.command.Command.{Command}
 use Rattle.rulebook.specs.declared.command.Kind.{Kind}
@@ -14,7 +13,7 @@ use Rattle.rulebook.specs.Summary.{Summarises, Answered}
 use Rattle.rulebook.specs.Answer.{broken_rule, answer_by, book_by, answer_to, book_after}
 use Rattle.rulebook.proofs.Judged.{judged}
 use Rattle.policy.specs.declared.entry.Entry.{Entry}
-use Rattle.machine.specs.Machine.{Service as Served, Machine, precharge_for, column_for, next_from, next_command, Ready, stays_after, Goes, extended}
+use Rattle.machine.specs.Machine.{Service as Served, Machine, precharge_for, column_for, next_from, next_command, stays_after, Goes, extended}
 use Rattle.machine.proofs.Stages.{Proper}
 use Rattle.controller.specs.declared.stage.Service.{Service}
 use Rattle.controller.specs.declared.stage.Stage.{Stage}

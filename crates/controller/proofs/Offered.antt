@@ -2,17 +2,16 @@
 use Rattle.std.proofs.Common.{◌≡◌, ℕ, ◌+◌, ◌-◌, ◌<◌, ◌≤◌, Bool, true, false, cond, eqb, ltb, leb, List, [], length, get_or, set, Some, None, Ok, Err, Option, Result, sym, refl, ap, ◌∙◌, subst, inl, inr, arith}
 use native.Mathlib.Bridge.{le_prop}
 use Rattle.std.proofs.lemmas.List.{get_or-set_same, get_or-set_other}
-use Rattle.std.proofs.lemmas.Bool.{le-leb, lt-leb, lt-ltb, eq-eqb, ne_eqb, cases_eq, cases_lt, cond-true, cond-false}
-use Rattle.rulebook.specs.declared.command.Command.{Command}
+use Rattle.std.proofs.lemmas.Bool.{le-leb, lt-leb, lt-ltb, eq-eqb, ne_eqb, cases_eq, cond-true, cond-false}
 use Rattle.rulebook.specs.declared.command.Kind.{Kind}
 use Rattle.policy.specs.declared.entry.Request.{Request}
 use Rattle.policy.specs.Meaning.{Meaning, WellShaped, own, HasPlace, Full}
-use Rattle.machine.specs.Machine.{Machine, base, base_at, asked_kind, improper, offer, offer_refusal, Accepted, Step, accepted, refused}
+use Rattle.machine.specs.Machine.{Machine, base_at, asked_kind, improper, offer, offer_refusal, Accepted, Step, accepted, refused}
 use Rattle.machine.proofs.Offers.{acceptable}
 use Rattle.controller.specs.declared.counts.Counts.{Counts}
 use Rattle.controller.specs.declared.receipt.Receipt.{Receipt}
 use Rattle.controller.specs.declared.refusals.OfferRefusal.{OfferRefusal}
-use Rattle.controller.specs.declared.refusals.OfferRefusal.TheVariants.{Requester, Request as Improper, Late, Full as FullUp}
+use Rattle.controller.specs.declared.refusals.OfferRefusal.TheVariants.{Requester}
 use Rattle.controller.specs.declared.session.Session.{Session}
 use Rattle.controller.specs.Counts.{count_of, one_more, counted}
 use Rattle.controller.specs.Offering.{in_time, wanted, TakesIn}

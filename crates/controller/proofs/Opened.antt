@@ -17,7 +17,7 @@ use Rattle.machine.proofs.Promised.{keeps_its_promises}
 use Rattle.controller.specs.declared.stage.Stage.TheVariants.{Idle}
 use Rattle.controller.specs.declared.session.Session.{Session}
 use Rattle.controller.specs.Counts.{count_of}
-use Rattle.controller.specs.Session.{service_of, machine, Reached, Sound, opening_refusal, Opens}
+use Rattle.controller.specs.Session.{service_of, machine, opening_refusal, Opens}
 
 -- what the sheet, the chip, the last cycle and the policy meet against which no reason stands
 fitting : (s : Sheet) (k : Chip) (last : ℕ) (p : Meaning) → WellShaped p → p.waiting ≡ [] → opening_refusal s k last p ≡ None → Fits s k last p

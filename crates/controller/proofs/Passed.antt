@@ -1,8 +1,7 @@
 -- A tick of a session is a step of its machine.
-use Rattle.std.proofs.Common.{◌≡◌, ℕ, ◌+◌, ◌-◌, ◌<◌, ◌≤◌, Bool, List, [], ◌∷◌, Some, None, Option, sym, refl, ap, ◌∙◌, subst, arith}
+use Rattle.std.proofs.Common.{◌≡◌, ℕ, ◌+◌, ◌-◌, ◌≤◌, Bool, List, Some, None, Option, sym, refl, ap, ◌∙◌, subst, arith}
 use Rattle.std.specs.List.{AllByRecursion as All}
 use Rattle.rulebook.specs.declared.command.Command.{Command}
-use Rattle.rulebook.specs.declared.book.Book.{Book}
 use Rattle.rulebook.specs.Summary.{Summarises}
 use Rattle.policy.specs.declared.entry.Entry.{Entry}
 use Rattle.policy.specs.Meaning.{Meaning, WellShaped, Turned, base_after}
@@ -17,8 +16,8 @@ use Rattle.controller.specs.declared.stage.RowState.TheVariants.{Here, Other, Cl
 use Rattle.controller.specs.declared.engine.Engine.{Engine}
 use Rattle.controller.specs.declared.session.Session.{Session}
 use Rattle.controller.specs.Counts.{count_of}
-use Rattle.controller.specs.Engine.{state_of, stage_with, sent_in, book_in, stage_in, sent, engine_after}
-use Rattle.controller.specs.Session.{service_of, machine, Sound, Carries}
+use Rattle.controller.specs.Engine.{state_of, book_in, stage_in, sent, engine_after}
+use Rattle.controller.specs.Session.{service_of, machine, Sound}
 use Rattle.controller.specs.Ticking.{stage_from, Begins, Passes}
 use Rattle.controller.proofs.Chained.{reached_more, known, spans}
 use Rattle.controller.proofs.Going.{Fit, gone}

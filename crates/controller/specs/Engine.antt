@@ -9,7 +9,6 @@ use Rattle.rulebook.specs.Record.{open_row_of}
 use Rattle.rulebook.specs.Answer.{answer_to, book_after}
 use Rattle.policy.specs.declared.entry.Entry.{Entry}
 use Rattle.machine.specs.Machine.{activate_for, precharge_for, column_for}
-use Rattle.controller.specs.declared.stage.Service.{Service}
 use Rattle.controller.specs.declared.stage.Stage.{Stage}
 use Rattle.controller.specs.declared.stage.Stage.TheVariants.{Idle, Serving}
 use Rattle.controller.specs.declared.stage.RowState.{RowState}

@@ -1,5 +1,5 @@
 -- What a request asks for, where it is a proper one.
-use Rattle.std.specs.Prelude.{◌≡◌, ℕ, Bool, true, false, cond, ◌||◌, Some, None, Option, nat_le}
+use Rattle.std.specs.Prelude.{Bool, cond, ◌||◌, None, Option, nat_le}
 use Rattle.sheet.specs.declared.geometry.Chip.{Chip}
 use Rattle.rulebook.specs.declared.command.Kind.{Kind}
 use Rattle.policy.specs.declared.entry.Request.{Request}

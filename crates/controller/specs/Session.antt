@@ -1,14 +1,12 @@
 -- The machine that a session stands for, what calls on it rest on, and what each call does.
-use Rattle.std.specs.Prelude.{◌≡◌, ℕ, Bool, cond, not, ◌||◌, List, [], Some, None, Ok, Err, Option, Result, ◌==◌, nat_lt}
+use Rattle.std.specs.Prelude.{◌≡◌, ℕ, cond, not, ◌||◌, List, [], Some, None, Ok, Err, Option, Result, ◌==◌, nat_lt}
 use Rattle.sheet.specs.declared.accepted.Sheet.{Sheet}
 use Rattle.sheet.specs.declared.geometry.Chip.{Chip}
 use Rattle.sheet.specs.Spans.{span}
 use Rattle.rulebook.specs.declared.command.Command.{Command}
-use Rattle.rulebook.specs.Book.{Obeys}
 use Rattle.rulebook.specs.Summary.{Summarises}
-use Rattle.policy.specs.declared.entry.Request.{Request}
 use Rattle.policy.specs.Meaning.{Meaning}
-use Rattle.machine.specs.Machine.{Service, Machine, opened, base, extended, Event, offer, tick, Answer, accepted, ticked, refused, Step, Exchange, Chain, offer_refusal}
+use Rattle.machine.specs.Machine.{Service, Machine, opened, base, extended, Event, Answer, accepted, ticked, refused, Step, Exchange, Chain}
 use Rattle.machine.specs.Promises.{KeepsItsPromises, DeadlinesNear}
 use Rattle.machine.specs.Determined.{AnswersDetermined}
 use Rattle.machine.specs.Opens.{Fits}

@@ -1,5 +1,5 @@
 -- Every chain keeps both: the machine runs, and its log is told.
-use Rattle.std.proofs.Common.{ℕ, ◌+◌, ◌-◌, List, [], ◌∷◌, ◌++◌, sym, subst}
+use Rattle.std.proofs.Common.{ℕ, List, [], ◌∷◌, ◌++◌, sym, subst}
 use Rattle.sheet.specs.declared.accepted.Sheet.{Sheet}
 use Rattle.sheet.specs.declared.geometry.Chip.{Chip}
 use Rattle.policy.specs.Meaning.{Meaning}

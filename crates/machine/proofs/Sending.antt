@@ -1,11 +1,11 @@
 -- A tick in the log: what is sent moves from the unserved entries into the trace.
-use Rattle.std.proofs.Common.{◌≡◌, ℕ, ◌+◌, ◌-◌, Bool, true, false, cond, eqb, List, [], ◌∷◌, ◌++◌, Some, None, Option, sym, refl, ap, ◌∙◌, subst, arith}
+use Rattle.std.proofs.Common.{◌≡◌, ℕ, Bool, true, false, cond, eqb, List, [], ◌∷◌, ◌++◌, Some, None, Option, sym, refl, ap, ◌∙◌, subst, arith}
 use Rattle.std.specs.List.{AllByRecursion as All}
 use Rattle.std.proofs.ByRecursion.{All-weaker}
 use Rattle.rulebook.specs.declared.command.Command.{Command}
 use Rattle.rulebook.specs.Book.{open_row}
 use Rattle.policy.specs.declared.entry.Entry.{Entry}
-use Rattle.machine.specs.Machine.{Service, Machine, Goes, next_from, column_for, precharge_for, tick, accepted, ticked, Exchange, extended}
+use Rattle.machine.specs.Machine.{Service, Machine, Goes, next_from, column_for, precharge_for, tick, ticked, Exchange, extended}
 use Rattle.machine.proofs.Steps.{begun, sent, Begins, running, idle, given, Halves}
 use Rattle.machine.proofs.Running.{unserved_of, unserved}
 use Rattle.machine.proofs.Serving.{all_left}

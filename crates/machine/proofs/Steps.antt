@@ -1,5 +1,5 @@
 -- What a call leaves, written out: the machine before it with the parts that change.
-use Rattle.std.proofs.Common.{◌≡◌, ℕ, ◌+◌, ◌-◌, true, cond, eqb, List, ◌∷◌, Some, None, Option, sym, refl, ap, ◌∙◌}
+use Rattle.std.proofs.Common.{◌≡◌, ℕ, ◌+◌, true, cond, eqb, List, ◌∷◌, Some, None, Option, sym, refl, ap, ◌∙◌}
 use Rattle.rulebook.specs.declared.command.Command.{Command}
 use Rattle.policy.specs.declared.entry.Request.{Request}
 use Rattle.policy.specs.declared.entry.Entry.{Entry}

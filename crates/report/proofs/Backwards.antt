@@ -1,5 +1,5 @@
 -- Going back line by line.
-use Rattle.std.proofs.Common.{◌≡◌, ℕ, zero, suc, ◌-◌, ◌<◌, Bool, true, false, cond, List, Some, None, Option, sym, refl, ap, ◌∙◌, arith}
+use Rattle.std.proofs.Common.{◌≡◌, ℕ, zero, suc, ◌<◌, Bool, true, false, cond, List, Some, None, Option, sym, refl, ap, ◌∙◌, arith}
 use Rattle.rulebook.specs.declared.command.Command.{Command}
 use Rattle.trace.specs.Fields.{and_then}
 use Rattle.trace.specs.Line.{command_in}

@@ -1,5 +1,5 @@
 -- Two boards that are told alike have the same gaps.
-use Rattle.std.proofs.Common.{◌≡◌, ℕ, ◌-◌, List, [], Ok, Err, Option, Result, refl, ap, arith}
+use Rattle.std.proofs.Common.{◌≡◌, ℕ, List, [], Ok, Err, Option, Result, refl, ap, arith}
 use Rattle.sheet.specs.Making.{in_order, Refused}
 use Rattle.sheet.specs.declared.accepted.Sheet.{Sheet}
 use Rattle.sheet.specs.declared.units.Cycles.{Cycles}

@@ -1,9 +1,9 @@
 -- Digits that are written are read as the number, and only they are.
-use Rattle.std.proofs.Common.{◌≡◌, ℕ, zero, suc, ◌+◌, ◌-◌, ◌*◌, ◌/◌, ◌%◌, ◌^◌, ◌<◌, ◌≤◌, Bool, true, false, cond, ◌&&◌, ltb, leb, List, [], ◌∷◌, ◌++◌, length, Some, None, Option, sym, refl, ap, ◌∙◌, subst, mod-lt, mul_comm, pow-suc, div-add-mod', div-one, arith, leb-true}
+use Rattle.std.proofs.Common.{◌≡◌, ℕ, zero, suc, ◌+◌, ◌*◌, ◌/◌, ◌%◌, ◌^◌, ◌<◌, ◌≤◌, Bool, true, false, cond, leb, List, [], ◌∷◌, length, Some, None, Option, sym, refl, ap, ◌∙◌, mod-lt, pow-suc, div-add-mod', div-one, arith, leb-true}
 use native.Mathlib.Nat.{div-div-eq-div-mul, pow-zero}
 use Rattle.std.proofs.lemmas.Bool.{le-leb}
 use Rattle.std.proofs.lemmas.Bool.Decides.{nat_tests}
-use Rattle.trace.specs.Digits.{digit_value, digit, digits, number_after, number_in}
+use Rattle.trace.specs.Digits.{digit_value, digit, digits, number_after}
 
 -- a digit's value and its byte
 pub value_digit : (n : ℕ) → n < 16 → digit_value (digit n) ≡ n

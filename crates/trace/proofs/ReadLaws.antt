@@ -1,5 +1,5 @@
 -- What is read is what was written, and only so.
-use Rattle.std.proofs.Common.{◌≡◌, ℕ, zero, suc, ◌+◌, ◌<◌, ◌≤◌, Bool, true, false, cond, not, ltb, List, [], ◌∷◌, ◌++◌, map, length, take, drop, is_some, Some, None, Ok, Err, Option, Result, unwrap_or, sym, refl, ap, ◌∙◌, subst, arith}
+use Rattle.std.proofs.Common.{◌≡◌, ℕ, suc, ◌+◌, false, cond, not, ltb, List, [], ◌∷◌, ◌++◌, map, length, take, drop, is_some, Some, None, Ok, Err, Option, Result, unwrap_or, sym, refl, ap, ◌∙◌, arith}
 use lib.ListN.{length-map}
 use Rattle.std.proofs.lemmas.List.{take_at}
 use Rattle.std.proofs.lemmas.Bool.{le-ltb}
@@ -7,7 +7,7 @@ use Rattle.sheet.specs.First.{first_from, first_place}
 use Rattle.sheet.specs.Making.{Refused, refused, unless_at}
 use Rattle.rulebook.specs.declared.command.Command.{Command}
 use Rattle.trace.specs.Line.{command_in}
-use Rattle.trace.specs.Text.{line_count, lines_of, no_command, malformed, command_at, ReadsAs, TextOf}
+use Rattle.trace.specs.Text.{line_count, lines_of, no_command, malformed, command_at}
 use Rattle.trace.specs.Reading.{read_told, reading, records_after, ReadOnlySo, ReadsBack}
 use Rattle.trace.specs.declared.reading.ReadRefusal.{ReadRefusal}
 use Rattle.sheet.proofs.First.{false_by, rest_by}

@@ -1,11 +1,10 @@
 -- A text and its lines.
-use Rattle.std.proofs.Common.{◌≡◌, ℕ, zero, suc, ◌+◌, ◌*◌, ◌/◌, ◌%◌, ◌<◌, ◌≤◌, min, Bool, true, false, List, [], ◌∷◌, ◌++◌, map, length, get_or, take, drop, Some, None, Option, sym, refl, ap, ◌∙◌, subst, mul-suc, add-one, arith}
+use Rattle.std.proofs.Common.{◌≡◌, ℕ, zero, suc, ◌*◌, ◌<◌, ◌≤◌, List, [], ◌∷◌, ◌++◌, map, length, get_or, take, drop, Some, sym, refl, ap, ◌∙◌, arith}
 use Rattle.std.specs.List.{flat_map}
-use Rattle.std.proofs.lemmas.List.{drop-drop, drop_all, take_all, take_at, drop_at, take-append-drop, length-append, length-drop}
+use Rattle.std.proofs.lemmas.List.{drop-drop, take_at, drop_at, take-append-drop, length-append, length-drop}
 use Rattle.sheet.specs.Units.{rounded_up}
 use Rattle.rulebook.specs.declared.command.Command.{Command}
-use Rattle.trace.specs.Line.{proper, line_of, command_in}
-use Rattle.trace.specs.Digits.{digits}
+use Rattle.trace.specs.Line.{line_of, command_in}
 use Rattle.trace.specs.Text.{line_count, line_at, pieces, lines_of, written, AllProper, ReadsAs, TextOf, LinesCorrespond}
 use Rattle.trace.proofs.Fieldwise.{length_digits}
 use Rattle.trace.proofs.Correspond.{reads_line, only_line}

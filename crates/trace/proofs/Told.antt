@@ -1,5 +1,5 @@
 -- What an answer says of how it came about.
-use Rattle.std.proofs.Common.{◌≡◌, ℕ, Bool, true, false, cond, Some, None, Ok, Err, Option, refl, arith}
+use Rattle.std.proofs.Common.{◌≡◌, ℕ, Bool, true, false, cond, Some, None, Ok, Option, refl, arith}
 use Rattle.sheet.specs.Making.{refused, unless_at}
 
 none_then : (number : ℕ) (o : Option ℕ) (n count : ℕ) → Ok count ≡ unless_at number o (Ok n) → (o ≡ None) × (count ≡ n)

@@ -1,15 +1,13 @@
 -- Digits and lines, written part after part.
-use Rattle.std.proofs.Common.{◌≡◌, ℕ, zero, suc, ◌+◌, ◌*◌, ◌/◌, ◌%◌, ◌^◌, ◌<◌, ◌≤◌, Bool, true, false, cond, not, ltb, List, [], ◌∷◌, ◌++◌, length, get_or, take, drop, set, Some, None, Ok, Err, Option, Result, sym, refl, ap, ◌∙◌, subst, append_assoc, div-one, add-one, arith}
+use Rattle.std.proofs.Common.{◌≡◌, ℕ, zero, suc, ◌+◌, ◌*◌, ◌/◌, ◌%◌, ◌^◌, ◌<◌, ◌≤◌, Bool, true, false, not, ltb, List, [], ◌∷◌, ◌++◌, length, get_or, take, drop, set, None, Ok, Err, Result, sym, refl, ap, ◌∙◌, subst, append_assoc, div-one, add-one, arith}
 use native.Mathlib.Nat.{pow-zero, pow-succ', div-div-eq-div-mul}
 use borrow.Rule.Slice.PartMut.{put_mid}
-use Rattle.std.specs.List.{flat_map}
 use Rattle.std.proofs.lemmas.List.{drop-set, drop_more, drop_all, set_at, length-take-le, flat_map_more, take_more, take_all, take_at}
 use Rattle.sheet.specs.First.{first_from, first_place}
-use Rattle.sheet.specs.Making.{refused, unless_at}
 use Rattle.rulebook.specs.declared.command.Command.{Command}
 use Rattle.trace.specs.Digits.{digit, digits}
 use Rattle.trace.specs.Line.{proper, line_of}
-use Rattle.trace.specs.Text.{written, AllProper, TextOf}
+use Rattle.trace.specs.Text.{written, AllProper}
 use Rattle.trace.specs.Writing.{write_told, improper, writing, bytes_after, WrittenSo}
 use Rattle.trace.specs.declared.writing.WriteRefusal.{WriteRefusal}
 use Rattle.sheet.proofs.First.{false_by, rest_by}

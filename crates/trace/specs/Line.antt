@@ -1,7 +1,6 @@
 -- One trace line, and the command that it stands for.
 use Rattle.std.specs.Prelude.{ℕ, ◌^◌, Bool, true, cond, ◌&&◌, List, [], ◌∷◌, ◌++◌, drop, Some, None, Option, ◌==◌, nat_lt}
 use Rattle.rulebook.specs.Kinds.{kind_number, kind_of}
-use Rattle.rulebook.specs.declared.command.Kind.{Kind}
 use Rattle.rulebook.specs.declared.command.Kind.TheVariants.{Idle, Activate, Precharge, Read, Write}
 use Rattle.rulebook.specs.declared.command.Command.{Command}
 use Rattle.trace.specs.Digits.{digits}

@@ -1,5 +1,5 @@
 -- Text as trace lines: it is cut every 27 bytes, and a shorter last piece is a line too.
-use Rattle.std.specs.Prelude.{◌≡◌, ℕ, zero, suc, ◌*◌, ◌≤◌, Bool, true, not, List, [], ◌∷◌, ◌++◌, map, length, take, drop, is_some, Some}
+use Rattle.std.specs.Prelude.{◌≡◌, ℕ, zero, suc, ◌*◌, Bool, true, not, List, [], ◌∷◌, map, length, take, drop, is_some, Some}
 use Rattle.std.specs.List.{flat_map}
 use Rattle.std.specs.Option.{unwrap_or}
 use Rattle.sheet.specs.Units.{rounded_up}

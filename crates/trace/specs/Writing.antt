@@ -1,5 +1,5 @@
 -- Writing commands into a lent buffer: the answer, and what the buffer then holds.
-use Rattle.std.specs.Prelude.{◌≡◌, ℕ, ◌*◌, Bool, cond, not, List, ◌++◌, length, take, drop, Some, None, Ok, Err, Option, Result, nat_lt}
+use Rattle.std.specs.Prelude.{ℕ, ◌*◌, Bool, cond, not, List, ◌++◌, length, take, drop, Some, None, Ok, Err, Option, Result, nat_lt}
 use Rattle.sheet.specs.First.{first_place}
 use Rattle.sheet.specs.Making.{Refused, refused, unless_at}
 use Rattle.rulebook.specs.declared.command.Command.{Command}

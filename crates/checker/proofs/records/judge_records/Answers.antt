@@ -1,9 +1,9 @@
-use Rattle.std.proofs.Common.{◌≡◌, List, length, take, refl, subst, arith}
+use Rattle.std.proofs.Common.{List, refl, subst, arith}
 use Rattle.std.proofs.lemmas.List.{take_all}
 use Rattle.rulebook.proofs.Obeying.{nothing_obeys}
 use Rattle.rulebook.specs.declared.command.Command.{Command}
 use Rattle.checker.specs.Judging.{Clean}
-use Rattle.checker.proofs.Steps.{SoFar, admitted_at, refused_at}
+use Rattle.checker.proofs.Steps.{admitted_at, refused_at}
 use Rattle.checker.proofs.records.judge_records.Goals as goal
 
 pub loop-line-init : goal.loop-line-init

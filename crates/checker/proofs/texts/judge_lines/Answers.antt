@@ -1,10 +1,9 @@
-use Rattle.std.proofs.Common.{◌≡◌, ℕ, ◌<◌, List, map, length, take, Ok, Err, sym, refl, ◌∙◌, subst, arith}
+use Rattle.std.proofs.Common.{ℕ, ◌<◌, List, map, length, take, Ok, Err, refl, subst, arith}
 use Rattle.std.proofs.lemmas.List.{take_all}
 use Rattle.rulebook.proofs.Obeying.{nothing_obeys}
 use Rattle.trace.specs.Text.{lines_of, command_at}
-use Rattle.trace.proofs.TextLaws.{length_lines}
 use Rattle.checker.specs.Judging.{LawfulLines, JudgedLine}
-use Rattle.checker.proofs.LineSteps.{LinesSoFar, line_more, line_refused}
+use Rattle.checker.proofs.LineSteps.{line_more, line_refused}
 use Rattle.checker.proofs.texts.judge_lines.Goals as goal
 
 pub loop-line-init : goal.loop-line-init

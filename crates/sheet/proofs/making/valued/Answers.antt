@@ -1,4 +1,4 @@
-use Rattle.std.proofs.Common.{◌≡◌, ℕ, ◌<◌, ◌≤◌, Bool, cond, List, [], ◌∷◌, map, length, Ok, sym, ap, ◌∙◌, arith, ltb-false}
+use Rattle.std.proofs.Common.{◌≡◌, cond, [], ◌∷◌, map, length, Ok, sym, ap, ◌∙◌, arith, ltb-false}
 use Rattle.sheet.specs.Given.{value_at}
 use Rattle.sheet.specs.Making.{refused}
 use Rattle.sheet.proofs.InOrder.{values_by_place, late_by_place, in_range_at}

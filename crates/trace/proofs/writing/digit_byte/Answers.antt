@@ -1,4 +1,4 @@
-use Rattle.std.proofs.Common.{arith, rules}
+use Rattle.std.proofs.Common.{rules}
 use Rattle.trace.specs.Digits.{digit}
 use Rattle.trace.proofs.writing.digit_byte.Goals as goal
 
