@@ -1,4 +1,4 @@
-// The answer for the test rig's C program: one number.
+// The answer for the test rig's C program: one number. What C calls is exported by the crate `checker_c`.
 ghost use Rattle.std.specs.Prelude.{◌≡◌, ℕ, ◌%◌, ◌^◌, Err, Result};
 ghost use Rattle.checker.specs.declared.refusals.TextRefusal.{TextRefusal as RefusedText};
 ghost use Rattle.checker.specs.Judging.{JudgedText};
@@ -8,8 +8,7 @@ use crate::judging::judge_text;
 use crate::refusals::TextRefusal;
 
 // Judges a trace by a sheet line, both as bytes: refusal × 2^56 + rule × 2^48 + line, place or count.
-#[unsafe(no_mangle)]
-pub extern "C" fn dorwithel_judge(sheet_line: &[u8], text: &[u8]) -> u64
+pub fn dorwithel_judge(sheet_line: &[u8], text: &[u8]) -> u64
     ensures { (answer : Result ℕ RefusedText) × JudgedText sheet_line.now text.now answer × (result ≡ packed answer) × GivesBack result answer }
 {
     pack(judge_text(sheet_line, text))
