@@ -1,6 +1,6 @@
 -- A tick of a session is a step of its machine.
 use Rattle.std.proofs.Common.{◌≡◌, ℕ, ◌+◌, ◌-◌, ◌≤◌, Bool, List, Some, None, Option, sym, refl, ap, ◌∙◌, subst, arith}
-use Rattle.std.specs.List.{AllByRecursion as All}
+use Rattle.std.specs.List.{AllByRecursion}
 use Rattle.rulebook.specs.declared.command.Command.{Command}
 use Rattle.rulebook.specs.Summary.{Summarises}
 use Rattle.policy.specs.declared.entry.Entry.{Entry}
@@ -44,7 +44,7 @@ left_over Q (Serving v) Closed o stays ends = stays
 
 module _ {P : Type 0} (meaning : P → Meaning) (sound : P → ℕ → ℕ → Type 0) (shaped : (p : P) → WellShaped (meaning p)) (shortened : (p : P) (c b d a : ℕ) → c ≤ d → d ≤ a + 1 → a ≤ b → sound p c b → sound p d a) where
   -- a turn was taken
-  turned : (m : Machine) (p p' : P) (g : Stage) (o : Option Entry) → m.service ≡ None → meaning p ≡ m.policy → g ≡ stage_from m.clock o → Turned m.policy m.clock o (meaning p') → sound p' (m.clock + 1) (base_after m.policy.span m.clock o) → All (Proper m.chip) m.policy.waiting → Begun meaning sound m p' g
+  turned : (m : Machine) (p p' : P) (g : Stage) (o : Option Entry) → m.service ≡ None → meaning p ≡ m.policy → g ≡ stage_from m.clock o → Turned m.policy m.clock o (meaning p') → sound p' (m.clock + 1) (base_after m.policy.span m.clock o) → AllByRecursion (Proper m.chip) m.policy.waiting → Begun meaning sound m p' g
   turned m p p' g None none is from t s all = subst (λ (x : Stage). Begun meaning sound m p' x) (sym from) (record {
     in_service = subst (λ (o : Option Served). InService m o None (meaning p')) (sym none) (None, t, refl);
     holds_same = t.0.holds_same;
@@ -57,12 +57,12 @@ module _ {P : Type 0} (meaning : P → Meaning) (sound : P → ℕ → ℕ → T
       subst (λ (x : Stage). Begun meaning sound m p' x) (sym from) (record {
         in_service = subst (λ (o : Option Served). InService m o (Some (record { entry = e; start = m.clock })) (meaning p')) (sym none) (Some e, t, refl);
         holds_same = t.0.holds_same;
-        fit = (subst (λ (es : List Entry). All (Proper m.chip) es) t.2 all).0;
+        fit = (subst (λ (es : List Entry). AllByRecursion (Proper m.chip) es) t.2 all).0;
         goes_on = subst (λ (x : ℕ). sound p' (m.clock + 1) ((m.clock + x) - 1)) (sym t.0.span_same) s;
         ends = shortened p' (m.clock + 1) ((m.clock + m.policy.span) - 1) (m.clock + 1) ((m.clock + 1) - 1) (omega arith) (omega arith) (omega (arith, span_some, t.0.span_same)) s;
       })
 
-  begun : (m : Machine) (p p' : P) (was g : Stage) → m.service ≡ service_of was → meaning p ≡ m.policy → Begins meaning sound m.clock was p g p' → sound p m.clock (base_at m.clock m.policy.span (service_of was)) → WithinSpan m.clock m.policy.span (service_of was) → All (Proper m.chip) (unserved_of (service_of was) m.policy.waiting) → Begun meaning sound m p' g
+  begun : (m : Machine) (p p' : P) (was g : Stage) → m.service ≡ service_of was → meaning p ≡ m.policy → Begins meaning sound m.clock was p g p' → sound p m.clock (base_at m.clock m.policy.span (service_of was)) → WithinSpan m.clock m.policy.span (service_of was) → AllByRecursion (Proper m.chip) (unserved_of (service_of was) m.policy.waiting) → Begun meaning sound m p' g
   begun m p p' Idle g served is b s w all =
       let f = b.2 s in
       turned m p p' g b.0 served is b.1

@@ -1,6 +1,6 @@
 -- Each call goes on as the requester's view does: its own offers are answered by the view, the offers of others leave it alone, and what is sent was promised.
 use Rattle.std.proofs.Common.{◌≡◌, ℕ, ◌+◌, ◌*◌, ◌<◌, ◌≤◌, Bool, true, false, cond, ◌&&◌, eqb, leb, List, [], ◌∷◌, ◌++◌, map, length, Some, None, Option, sym, refl, ap, ◌∙◌, subst, append_assoc, append-nil, arith}
-use Rattle.std.specs.List.{AllByRecursion as All}
+use Rattle.std.specs.List.{AllByRecursion}
 use Rattle.std.proofs.lemmas.List.{map-append, length-append}
 use Rattle.std.proofs.lemmas.List.Elements.{filter-append}
 use Rattle.std.proofs.lemmas.Bool.{eqb-true, eqb-false, eq-eqb, ne_eqb, le-leb, lt-leb, cond-true, cond-false}
@@ -33,7 +33,7 @@ own_joins m q number deadline n a run t =
     let w = m.policy.span in
     let k = t.sound.next in
     let e : Entry = entry_for m.policy q number a.kind deadline in
-    let clear : All (Clear w r deadline) es = subst (λ (d : ℕ). All (Clear w r d) es) (sym (in_own_slot m q number deadline n a run t)) (slot_clear w m.policy.requesters k r 8 es (acceptable m q a.no_reason).known t.few t.sound.owned) in
+    let clear : AllByRecursion (Clear w r deadline) es = subst (λ (d : ℕ). AllByRecursion (Clear w r d) es) (sym (in_own_slot m q number deadline n a run t)) (slot_clear w m.policy.requesters k r 8 es (acceptable m q a.no_reason).known t.few t.sound.owned) in
     ap (own r) (joins_in_turn m q number deadline n a t.in_turn).0 ∙ joined_own w (k * w) e es (omega (arith, run.shaped.span_bound)) t.sound.apart clear
 
 unserved_joins : (r : ℕ) (o : Option Service) (es fs : List Entry) (e : Entry) → own r fs ≡ own r es ++ (e ∷ []) → own r (unserved_of o fs) ≡ own r (unserved_of o es) ++ (e ∷ [])

@@ -1,7 +1,7 @@
 -- One column command of a requester a frame: its slots lie a frame apart.
 use Rattle.std.proofs.Common.{◌≡◌, ℕ, ◌+◌, ◌-◌, ◌*◌, ◌/◌, ◌%◌, ◌<◌, ◌≤◌, Bool, true, false, cond, ◌&&◌, eqb, ◌≢◌, List, [], ◌∷◌, ◌++◌, filter, sym, ap, ◌∙◌, subst, append_assoc, mul-le-mul_right, mod-lt, arith}
 use native.Mathlib.Nat.{div-add-mod}
-use Rattle.std.specs.List.{AllByRecursion as All}
+use Rattle.std.specs.List.{AllByRecursion}
 use Rattle.std.proofs.lemmas.Nat.{div-mul-add}
 use Rattle.std.proofs.ByRecursion.{kept_by_passes, all_kept_by}
 use Rattle.std.proofs.lemmas.Bool.{eqb-true, and_parts}
@@ -43,14 +43,14 @@ frames_apart w n r a b o h x y l e =
     omega (arith, x.2, y.2, ap (λ (t : ℕ). slot_end w t) same)
 
 -- every command of a list is such
-pub all_from : (P : Command → Type 0) (cs : List Command) → Every P cs → All P cs
+pub all_from : (P : Command → Type 0) (cs : List Command) → Every P cs → AllByRecursion P cs
 all_from P [] e = tt
 all_from P (c ∷ cs) e = (e.0, all_from P cs e.1)
 
 -- each command comes before those after it
 abbrev Rising : List Command → Type 0
 Rising [] = Unit {0}
-Rising (c ∷ cs) = All (λ d. c.cycle < d.cycle) cs × Rising cs
+Rising (c ∷ cs) = AllByRecursion (λ d. c.cycle < d.cycle) cs × Rising cs
 
 rising_from : (s : Sheet) (k : Chip) (before cs : List Command) → Obeys s k (before ++ cs) → Rising cs
 rising_from s k before [] o = tt
@@ -75,7 +75,7 @@ column_from Read e = tt
 column_from Write e = tt
 
 -- the column commands of a requester lie at the ends of its slots
-columns_in_slots : (w n r : ℕ) (h : List Command) → Every (InSlot w n) h → All (λ c. EndsOwn w n r c.cycle) (columns_of r h)
+columns_in_slots : (w n r : ℕ) (h : List Command) → Every (InSlot w n) h → AllByRecursion (λ c. EndsOwn w n r c.cycle) (columns_of r h)
 columns_in_slots w n r h e =
     let p : Command → Bool = λ (c : Command). is_column c.kind && eqb c.requester r in
     all_both (InSlot w n) (λ c. p c ≡ true) (λ c. EndsOwn w n r c.cycle)
@@ -89,13 +89,13 @@ one_a_frame s k last p f o r log n c front mid back x y whole =
     let l = reached (opened s k last p) (opened s k last p) log n (opened_reached s k last p f o) c in
     let w = n.policy.span in
     let h : columns_of r n.trace ≡ front ++ (x ∷ mid ++ (y ∷ back)) = ap (λ (cs : List Command). columns_of r cs) t.told.trace_is ∙ whole in
-    let slots : All (λ (d : Command). EndsOwn w n.policy.requesters r d.cycle) (front ++ (x ∷ mid ++ (y ∷ back))) =
-    subst (λ (cs : List Command). All (λ (d : Command). EndsOwn w n.policy.requesters r d.cycle) cs) h (columns_in_slots w n.policy.requesters r n.trace l.turns.columns) in
+    let slots : AllByRecursion (λ (d : Command). EndsOwn w n.policy.requesters r d.cycle) (front ++ (x ∷ mid ++ (y ∷ back))) =
+    subst (λ (cs : List Command). AllByRecursion (λ (d : Command). EndsOwn w n.policy.requesters r d.cycle) cs) h (columns_in_slots w n.policy.requesters r n.trace l.turns.columns) in
     let rises : Rising (front ++ (x ∷ mid ++ (y ∷ back))) =
     subst Rising h (kept_rising (λ (d : Command). is_column d.kind && eqb d.requester r) n.trace (rising_from n.sheet n.chip [] n.trace t.runs.0.obeys)) in
     let first = all_at (λ (d : Command). EndsOwn w n.policy.requesters r d.cycle) front x (mid ++ (y ∷ back)) slots in
     let second = all_at (λ (d : Command). EndsOwn w n.policy.requesters r d.cycle) (front ++ (x ∷ mid)) y back
-    (subst (λ (cs : List Command). All (λ (d : Command). EndsOwn w n.policy.requesters r d.cycle) cs) (sym (append_assoc front (x ∷ mid) (y ∷ back))) slots) in
+    (subst (λ (cs : List Command). AllByRecursion (λ (d : Command). EndsOwn w n.policy.requesters r d.cycle) cs) (sym (append_assoc front (x ∷ mid) (y ∷ back))) slots) in
     let shape = t.told.constant.shape_is in
     let apart = frames_apart w n.policy.requesters r x.cycle y.cycle (omega (arith, t.runs.0.shaped.span_bound)) (omega (arith, t.runs.0.shaped.some_requester)) first second (rising_at front x mid y back rises) in
     λ e. apart ((λ i. (x.cycle - 1) / (shape.requesters_same i * shape.span_same i)) ∙ e ∙ sym (λ i. (y.cycle - 1) / (shape.requesters_same i * shape.span_same i)))

@@ -1,6 +1,6 @@
 -- The promises that hold whatever the order, read off at the end of a chain.
 use Rattle.std.proofs.Common.{◌≡◌, ℕ, ◌+◌, ◌-◌, ◌<◌, ◌≤◌, Bool, true, false, cond, eqb, List, [], ◌∷◌, ◌++◌, Some, None, Option, sym, refl, ap, ◌∙◌, subst, append_assoc, arith}
-use Rattle.std.specs.List.{AllByRecursion as All}
+use Rattle.std.specs.List.{AllByRecursion}
 use Rattle.sheet.specs.declared.accepted.Sheet.{Sheet}
 use Rattle.sheet.specs.declared.geometry.Chip.{Chip}
 use Rattle.rulebook.specs.declared.command.Command.{Command}
@@ -56,7 +56,7 @@ deadlines_near s k last p f log n c before rest q number deadline whole =
     (omega (arith, t.clock_is, t.constant.shape_is.reach_same), omega (arith, t.clock_is, t.constant.last_is))
 
 -- what goes out is the next command of an unserved entry
-sent_for : (m : Machine) (P : Entry → Type 0) (now : Option Service) (es : List Entry) (c : Command) (then : Option Service) → Goes m now (Some c) then → All P (unserved_of now es) → (e : Entry) × P e × (c ≡ next_command m e)
+sent_for : (m : Machine) (P : Entry → Type 0) (now : Option Service) (es : List Entry) (c : Command) (then : Option Service) → Goes m now (Some c) then → AllByRecursion P (unserved_of now es) → (e : Entry) × P e × (c ≡ next_command m e)
 sent_for m P None es c then g a = absurd g
 sent_for m P (Some s) es c then g a = (s.entry, a.0, g.0)
 
@@ -94,7 +94,7 @@ ticked_asked start before m (offer q) c n t s = absurd s
 ticked_asked start before m tick c n t s =
     let h = halves m (Some c) n s in
     let f = sent_for (begun m h.policy_clock h.entries h.now) (Origin m.policy.bank_name before) h.now h.entries c n.service h.goes
-    (subst (λ (es : List Entry). All (Origin m.policy.bank_name before) es) (sym (same_unserved m h.entries h.now h.begins)) t.origin) in
+    (subst (λ (es : List Entry). AllByRecursion (Origin m.policy.bank_name before) es) (sym (same_unserved m h.entries h.now h.begins)) t.origin) in
     asked_for start before m f.0 c t f.1 f.2
 
 pub accounted_for : WheneverOpened AccountedFor
@@ -103,21 +103,21 @@ accounted_for s k last p f log n c before rest e d whole =
     ticked_asked (opened s k last p) before cut.here e d cut.next (logged s k last p f before cut.here cut.to_here).told cut.step
 
 -- no unserved entry's deadline has passed
-waiting_late : (clock span base : ℕ) (es : List Entry) → clock ≤ base + span → Timely span base es → All (λ e. clock ≤ e.deadline) es
+waiting_late : (clock span base : ℕ) (es : List Entry) → clock ≤ base + span → Timely span base es → AllByRecursion (λ e. clock ≤ e.deadline) es
 waiting_late clock span base [] l t = tt
 waiting_late clock span base (e ∷ es) l t = (omega (arith, t.0), waiting_late clock span (base + span) es (omega arith) t.1)
 
-late_by : (m : Machine) (o : Option Service) → Running m → Staged m o → Timely m.policy.span (base_at m.clock m.policy.span o) m.policy.waiting → All (λ e. m.clock ≤ e.deadline) (unserved_of o m.policy.waiting)
+late_by : (m : Machine) (o : Option Service) → Running m → Staged m o → Timely m.policy.span (base_at m.clock m.policy.span o) m.policy.waiting → AllByRecursion (λ e. m.clock ≤ e.deadline) (unserved_of o m.policy.waiting)
 late_by m None r g t = waiting_late m.clock m.policy.span (m.clock - 1) m.policy.waiting (omega (arith, r.shaped.span_bound)) t
 late_by m (Some s) r g t =
     let within = within_span m s g r.span_fits in
     (omega (arith, g.in_time), waiting_late m.clock m.policy.span ((s.start + m.policy.span) - 1) m.policy.waiting (omega arith) t)
 
-pub unserved_late : (m : Machine) → Running m → All (λ e. m.clock ≤ e.deadline) (unserved m)
+pub unserved_late : (m : Machine) → Running m → AllByRecursion (λ e. m.clock ≤ e.deadline) (unserved m)
 unserved_late m r = late_by m m.service r r.stage r.timely
 
 -- an entry with a deadline not yet passed is not the request whose deadline passed
-not_this : (clock : ℕ) (log : List Exchange) (q : Request) (i d : ℕ) → AcceptedIn log q i d → d < clock → (es : List Entry) → All (Due log) es → All (λ e. clock ≤ e.deadline) es → All (λ e. e.requester ≡ q.requester → e.number ≡ i → ⊥) es
+not_this : (clock : ℕ) (log : List Exchange) (q : Request) (i d : ℕ) → AcceptedIn log q i d → d < clock → (es : List Entry) → AllByRecursion (Due log) es → AllByRecursion (λ e. clock ≤ e.deadline) es → AllByRecursion (λ e. e.requester ≡ q.requester → e.number ≡ i → ⊥) es
 not_this clock log q i d a past [] h l = tt
 not_this clock log q i d a past (e ∷ es) h l = (λ whose which. omega (arith, h.0 q i d a whose which, l.0), not_this clock log q i d a past es h.1 l.1)
 

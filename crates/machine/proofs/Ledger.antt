@@ -1,6 +1,6 @@
 -- The ledger: of each requester and number, the entries not yet served and the column commands sent are together one where the number was given out, and none where it was not.
 use Rattle.std.proofs.Common.{◌≡◌, ℕ, ◌+◌, ◌<◌, Bool, cond, ◌&&◌, eqb, ltb, List, [], ◌∷◌, ◌++◌, length, Some, None, filter, Option, sym, refl, ap, ◌∙◌, inl, inr, arith}
-use Rattle.std.specs.List.{AllByRecursion as All}
+use Rattle.std.specs.List.{AllByRecursion}
 use Rattle.std.proofs.lemmas.Bool.{eqb-true, eq-eqb, ne_eqb, lt-ltb, le-ltb, and_parts, cases_eq, cases_order, cases_Bool, cond-true, cond-false}
 use Rattle.rulebook.specs.declared.command.Command.{Command}
 use Rattle.rulebook.specs.declared.command.Kind.{Kind}
@@ -78,7 +78,7 @@ balanced_sent s es h counts c whose which b r i =
     omega (arith, b r i, kept_last (λ (d : Command). is_column d.kind && (eqb d.requester r && eqb d.number i)) h c, left_or_sent (named r i) c.kind s es)
 
 -- nothing is pending where no entry has the name
-pub none_pending : (r i : ℕ) (es : List Entry) → All (λ e. e.requester ≡ r → e.number ≡ i → ⊥) es → pending r i es ≡ 0
+pub none_pending : (r i : ℕ) (es : List Entry) → AllByRecursion (λ e. e.requester ≡ r → e.number ≡ i → ⊥) es → pending r i es ≡ 0
 none_pending r i [] a = refl
 none_pending r i (e ∷ es) a = elim (cases_Bool (named r i e)) [
   | inl t ↦ let p = and_parts (eqb e.requester r) (eqb e.number i) t in absurd (a.0 (eqb-true e.requester r p.0) (eqb-true e.number i p.1))

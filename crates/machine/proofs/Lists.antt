@@ -1,6 +1,6 @@
 -- Lists: cut before an element, counted by a test, and what holds of each element.
 use Rattle.std.proofs.Common.{◌≡◌, ℕ, ◌+◌, ◌≤◌, Bool, true, false, cond, ◌⊎◌, List, [], ◌∷◌, ◌++◌, length, filter, sym, refl, ap, ◌∙◌, inl, inr, arith}
-use Rattle.std.specs.List.{AllByRecursion as All}
+use Rattle.std.specs.List.{AllByRecursion}
 use Rattle.std.proofs.lemmas.List.{length-append}
 use Rattle.std.proofs.lemmas.List.Elements.{filter-append}
 
@@ -23,15 +23,15 @@ last_cut (a ∷ xs) x (b ∷ before) y rest e =
     ]
 
 -- both facts of each element, and the fact of the element before which a list is cut
-pub all_both : {X : Type 0} (P Q R : X → Type 0) → ((x : X) → P x → Q x → R x) → (xs : List X) → All P xs → All Q xs → All R xs
+pub all_both : {X : Type 0} (P Q R : X → Type 0) → ((x : X) → P x → Q x → R x) → (xs : List X) → AllByRecursion P xs → AllByRecursion Q xs → AllByRecursion R xs
 all_both P Q R f [] a b = tt
 all_both P Q R f (x ∷ xs) a b = (f x a.0 b.0, all_both P Q R f xs a.1 b.1)
 
-pub all_at : {X : Type 0} (P : X → Type 0) (xs : List X) (y : X) (ys : List X) → All P (xs ++ (y ∷ ys)) → P y
+pub all_at : {X : Type 0} (P : X → Type 0) (xs : List X) (y : X) (ys : List X) → AllByRecursion P (xs ++ (y ∷ ys)) → P y
 all_at P [] y ys a = a.0
 all_at P (x ∷ xs) y ys a = all_at P xs y ys a.1
 
-pub all_joined : {X : Type 0} (P : X → Type 0) (front back : List X) (e : X) → P e → All P (front ++ back) → All P (front ++ (e ∷ back))
+pub all_joined : {X : Type 0} (P : X → Type 0) (front back : List X) (e : X) → P e → AllByRecursion P (front ++ back) → AllByRecursion P (front ++ (e ∷ back))
 all_joined P [] back e p a = (p, a)
 all_joined P (x ∷ front) back e p a = (a.0, all_joined P front back e p a.1)
 
@@ -56,10 +56,10 @@ fewer_kept p [] = omega arith
 fewer_kept p (x ∷ xs) = elim (p x) as (λ b. length (cond b (x ∷ filter p xs) (filter p xs)) ≤ length (x ∷ xs)) [ true ↦ omega (arith, fewer_kept p xs) | false ↦ omega (arith, fewer_kept p xs) ]
 
 -- where nothing passes, and where all does
-pub kept_none : {X : Type 0} (p : X → Bool) (xs : List X) → All (λ x. p x ≡ false) xs → filter p xs ≡ []
+pub kept_none : {X : Type 0} (p : X → Bool) (xs : List X) → AllByRecursion (λ x. p x ≡ false) xs → filter p xs ≡ []
 kept_none p [] a = refl
 kept_none p (x ∷ xs) a = ap (λ (b : Bool). cond b (x ∷ filter p xs) (filter p xs)) a.0 ∙ kept_none p xs a.1
 
-pub kept_every : {X : Type 0} (p : X → Bool) (xs : List X) → All (λ x. p x ≡ true) xs → filter p xs ≡ xs
+pub kept_every : {X : Type 0} (p : X → Bool) (xs : List X) → AllByRecursion (λ x. p x ≡ true) xs → filter p xs ≡ xs
 kept_every {X} p [] a = refl
 kept_every {X} p (x ∷ xs) a = ap (λ (b : Bool). cond b (x ∷ filter p xs) (filter p xs)) a.0 ∙ ap (λ (ys : List X). x ∷ ys) (kept_every p xs a.1)

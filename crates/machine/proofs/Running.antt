@@ -1,6 +1,6 @@
 -- What every machine keeps that a chain reaches, whatever was called: within the rules, deadlines that leave room, and a service in one of its stages.
 use Rattle.std.proofs.Common.{◌≡◌, ℕ, ◌+◌, ◌-◌, ◌<◌, ◌≤◌, true, List, ◌∷◌, ◌++◌, Some, None, Option, sym, refl, ◌∙◌, subst, arith}
-use Rattle.std.specs.List.{AllByRecursion as All}
+use Rattle.std.specs.List.{AllByRecursion}
 use Rattle.sheet.specs.declared.accepted.Sheet.{Sheet}
 use Rattle.sheet.specs.declared.geometry.Chip.{Chip}
 use Rattle.rulebook.specs.Book.{AllBefore, Obeys}
@@ -31,7 +31,7 @@ pub record Running (m : Machine) : Type 0 where
   pub clock_some : 1 ≤ m.clock
   pub obeys : Obeys m.sheet m.chip m.trace
   pub before : AllBefore m.clock m.trace
-  pub proper : All (Proper m.chip) (unserved m)
+  pub proper : AllByRecursion (Proper m.chip) (unserved m)
   pub timely : Timely m.policy.span (base m) m.policy.waiting
   pub stage : Staged m m.service
 
@@ -48,7 +48,7 @@ opened_runs s k last p f = record {
   clock_some = omega arith;
   obeys = nothing_obeys s k;
   before = tt;
-  proper = subst (λ (es : List Entry). All (Proper k) es) (sym f.nothing_waits) tt;
+  proper = subst (λ (es : List Entry). AllByRecursion (Proper k) es) (sym f.nothing_waits) tt;
   timely = subst (λ (es : List Entry). Timely p.span 0 es) (sym f.nothing_waits) tt;
   stage = tt;
 }
@@ -59,16 +59,16 @@ staged_on m pc es now counts None g = tt
 staged_on m pc es now counts (Some s) g = record { row = g.row; row_is = g.row_is; began = g.began; floor = g.floor; limit = g.limit; in_time = g.in_time; on_time = g.on_time }
 
 -- an entry joins
-pub unserved_joined : (P : Entry → Type 0) (o : Option Service) (front back : List Entry) (e : Entry) → P e → All P (unserved_of o (front ++ back)) → All P (unserved_of o (front ++ (e ∷ back)))
+pub unserved_joined : (P : Entry → Type 0) (o : Option Service) (front back : List Entry) (e : Entry) → P e → AllByRecursion P (unserved_of o (front ++ back)) → AllByRecursion P (unserved_of o (front ++ (e ∷ back)))
 unserved_joined P None front back e p a = all_joined P front back e p a
 unserved_joined P (Some s) front back e p a = (a.0, all_joined P front back e p a.1)
 
-pub all_unserved_joined : (P : Entry → Type 0) (m : Machine) (q : Request) (number deadline : ℕ) (n : Machine) (a : Accepted m q number deadline n) → P (entry_for m.policy q number a.kind deadline) → All P (unserved m) → All P (unserved_of m.service n.policy.waiting)
+pub all_unserved_joined : (P : Entry → Type 0) (m : Machine) (q : Request) (number deadline : ℕ) (n : Machine) (a : Accepted m q number deadline n) → P (entry_for m.policy q number a.kind deadline) → AllByRecursion P (unserved m) → AllByRecursion P (unserved_of m.service n.policy.waiting)
 all_unserved_joined P m q number deadline n a p all =
     let j = a.taken.joins in
     let e = entry_for m.policy q number a.kind deadline in
-    subst (λ (es : List Entry). All P (unserved_of m.service es)) (sym j.3)
-    (unserved_joined P m.service j.0 j.1 e p (subst (λ (es : List Entry). All P (unserved_of m.service es)) j.2 all))
+    subst (λ (es : List Entry). AllByRecursion P (unserved_of m.service es)) (sym j.3)
+    (unserved_joined P m.service j.0 j.1 e p (subst (λ (es : List Entry). AllByRecursion P (unserved_of m.service es)) j.2 all))
 
 pub accepted_runs : (m : Machine) (q : Request) (number deadline : ℕ) (n : Machine) → Accepted m q number deadline n → Running m → Running (joined_to m q.requester n.policy.waiting)
 accepted_runs m q number deadline n a r = record {
@@ -109,7 +109,7 @@ given_runs m pc es e free w on r =
       clock_some = r.clock_some;
       obeys = r.obeys;
       before = r.before;
-      proper = subst (λ (xs : List Entry). All (Proper m.chip) xs) w (subst (λ (o : Option Service). All (Proper m.chip) (unserved_of o m.policy.waiting)) free r.proper);
+      proper = subst (λ (xs : List Entry). AllByRecursion (Proper m.chip) xs) w (subst (λ (o : Option Service). AllByRecursion (Proper m.chip) (unserved_of o m.policy.waiting)) free r.proper);
       timely = subst (λ (b : ℕ). Timely m.policy.span b es) later timely.1;
       stage = stage_begins (begun m pc es (Some (record { entry = e; start = m.clock }))) (record { entry = e; start = m.clock }) refl r.before (omega (arith, timely.0, r.clock_some)) on;
     }

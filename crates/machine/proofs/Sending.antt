@@ -1,6 +1,6 @@
 -- A tick in the log: what is sent moves from the unserved entries into the trace.
 use Rattle.std.proofs.Common.{◌≡◌, ℕ, Bool, true, false, cond, eqb, List, [], ◌∷◌, ◌++◌, Some, None, Option, sym, refl, ap, ◌∙◌, subst, arith}
-use Rattle.std.specs.List.{AllByRecursion as All}
+use Rattle.std.specs.List.{AllByRecursion}
 use Rattle.std.proofs.ByRecursion.{All-weaker}
 use Rattle.rulebook.specs.declared.command.Command.{Command}
 use Rattle.rulebook.specs.Book.{open_row}
@@ -29,11 +29,11 @@ next_names None clock e = (refl, refl)
 next_names (Some row) clock e = open_names (eqb row e.row) clock e
 
 -- what is left unserved by what goes out was unserved before
-pub left_all : (P : Entry → Type 0) (m : Machine) (now : Option Service) (es : List Entry) (answer : Option Command) (then : Option Service) → Goes m now answer then → All P (unserved_of now es) → All P (unserved_of then es)
-left_all P m None es None then g a = subst (λ (o : Option Service). All P (unserved_of o es)) (sym g) a
+pub left_all : (P : Entry → Type 0) (m : Machine) (now : Option Service) (es : List Entry) (answer : Option Command) (then : Option Service) → Goes m now answer then → AllByRecursion P (unserved_of now es) → AllByRecursion P (unserved_of then es)
+left_all P m None es None then g a = subst (λ (o : Option Service). AllByRecursion P (unserved_of o es)) (sym g) a
 left_all P m None es (Some c) then g a = absurd g
-left_all P m (Some s) es None then g a = subst (λ (o : Option Service). All P (unserved_of o es)) (sym g.1) a
-left_all P m (Some s) es (Some c) then g a = subst (λ (o : Option Service). All P (unserved_of o es)) (sym g.2) (all_left P c.kind s es a)
+left_all P m (Some s) es None then g a = subst (λ (o : Option Service). AllByRecursion P (unserved_of o es)) (sym g.1) a
+left_all P m (Some s) es (Some c) then g a = subst (λ (o : Option Service). AllByRecursion P (unserved_of o es)) (sym g.2) (all_left P c.kind s es a)
 
 left_balanced : (m : Machine) (now : Option Service) (es : List Entry) (answer : Option Command) (then : Option Service) → Goes m now answer then → Balanced (unserved_of now es) m.trace m.accepted → Balanced (unserved_of then es) (extended m.trace answer) m.accepted
 left_balanced m None es None then g b = subst (λ (o : Option Service). Balanced (unserved_of o es) m.trace m.accepted) (sym g) b
@@ -56,10 +56,10 @@ sent_told start log m answer then pc es now b g t =
       constant = constant_sent start k answer then (constant_changed start m pc es now m.accepted t.constant);
       clock_is = omega (arith, t.clock_is, ticks_more log x);
       trace_is = ap (λ (h : List Command). extended h answer) t.trace_is ∙ sym (commands_more log x);
-      origin = left_all (Origin names (log ++ (x ∷ []))) k now es answer then g (All-weaker (Origin names log) (Origin names (log ++ (x ∷ []))) (longer_origin names log x) (unserved_of now es) (subst (λ (xs : List Entry). All (Origin names log) xs) whole t.origin));
+      origin = left_all (Origin names (log ++ (x ∷ []))) k now es answer then g (All-weaker (Origin names log) (Origin names (log ++ (x ∷ []))) (longer_origin names log x) (unserved_of now es) (subst (λ (xs : List Entry). AllByRecursion (Origin names log) xs) whole t.origin));
       balanced = left_balanced k now es answer then g (subst (λ (xs : List Entry). Balanced xs m.trace m.accepted) whole t.balanced);
       numbered = longer_numbered log x m.accepted (no_ticked tick answer) t.numbered;
-      due = left_all (Due (log ++ (x ∷ []))) k now es answer then g (All-weaker (Due log) (Due (log ++ (x ∷ []))) (λ y. longer_due log x y (no_ticked tick answer)) (unserved_of now es) (subst (λ (xs : List Entry). All (Due log) xs) whole t.due));
+      due = left_all (Due (log ++ (x ∷ []))) k now es answer then g (All-weaker (Due log) (Due (log ++ (x ∷ []))) (λ y. longer_due log x y (no_ticked tick answer)) (unserved_of now es) (subst (λ (xs : List Entry). AllByRecursion (Due log) xs) whole t.due));
     }
 
 pub ticked_told : (start : Machine) (log : List Exchange) (m : Machine) (answer : Option Command) (n : Machine) → Halves m answer n → Told start log m → Told start (log ++ (record { event = tick; answer = ticked answer } ∷ [])) n

@@ -1,6 +1,6 @@
 -- A tick keeps a machine running: what is in service waits, goes on or ends, and no service outlasts its span.
 use Rattle.std.proofs.Common.{◌≡◌, ℕ, ◌+◌, ◌-◌, ◌<◌, Bool, true, false, cond, eqb, List, [], ◌∷◌, ◌++◌, Some, None, Option, sym, refl, ap, ◌∙◌, subst, arith}
-use Rattle.std.specs.List.{AllByRecursion as All}
+use Rattle.std.specs.List.{AllByRecursion}
 use Rattle.rulebook.specs.declared.command.Command.{Command}
 use Rattle.rulebook.specs.declared.command.Kind.{Kind}
 use Rattle.rulebook.specs.declared.command.Kind.TheVariants.{Idle, Activate, Precharge, Read, Write}
@@ -24,7 +24,7 @@ idle_runs m free late r = record {
   clock_some = omega arith;
   obeys = r.obeys;
   before = every_map {P = λ a. a.cycle < m.clock} (λ a l. omega arith) m.trace r.before;
-  proper = subst (λ (o : Option Service). All (Proper m.chip) (unserved_of o m.policy.waiting)) free r.proper;
+  proper = subst (λ (o : Option Service). AllByRecursion (Proper m.chip) (unserved_of o m.policy.waiting)) free r.proper;
   timely = subst (λ (b : ℕ). Timely m.policy.span b m.policy.waiting) (omega arith) late;
   stage = tt;
 }
@@ -33,8 +33,8 @@ idle_runs m free late r = record {
 pub stage_of : (m : Machine) (s : Service) → m.service ≡ Some s → Running m → Stage m s
 stage_of m s w r = subst (λ (o : Option Service). Staged m o) w r.stage
 
-pub proper_of : (m : Machine) (s : Service) → m.service ≡ Some s → Running m → All (Proper m.chip) (s.entry ∷ m.policy.waiting)
-proper_of m s w r = subst (λ (o : Option Service). All (Proper m.chip) (unserved_of o m.policy.waiting)) w r.proper
+pub proper_of : (m : Machine) (s : Service) → m.service ≡ Some s → Running m → AllByRecursion (Proper m.chip) (s.entry ∷ m.policy.waiting)
+proper_of m s w r = subst (λ (o : Option Service). AllByRecursion (Proper m.chip) (unserved_of o m.policy.waiting)) w r.proper
 
 pub timely_of : (m : Machine) (s : Service) → m.service ≡ Some s → Running m → Timely m.policy.span ((s.start + m.policy.span) - 1) m.policy.waiting
 timely_of m s w r = subst (λ (o : Option Service). Timely m.policy.span (base_at m.clock m.policy.span o) m.policy.waiting) w r.timely
@@ -67,7 +67,7 @@ next_cycle None clock e = refl
 next_cycle (Some row) clock e = open_cycle (eqb row e.row) clock e
 
 -- what a command leaves unserved was so before
-pub all_left : (P : Entry → Type 0) (k : Kind) (s : Service) (es : List Entry) → All P (s.entry ∷ es) → All P (unserved_of (stays_after k s) es)
+pub all_left : (P : Entry → Type 0) (k : Kind) (s : Service) (es : List Entry) → AllByRecursion P (s.entry ∷ es) → AllByRecursion P (unserved_of (stays_after k s) es)
 all_left P Idle s es a = a
 all_left P Activate s es a = a
 all_left P Precharge s es a = a

@@ -1,6 +1,6 @@
 -- What a machine keeps of the log that led to it: clock, trace, where each unserved entry comes from, the ledger, numbers and deadlines.
 use Rattle.std.proofs.Common.{◌≡◌, ℕ, ◌+◌, ◌<◌, ltb, List, [], ◌∷◌, ◌++◌, Some, Option, sym, refl, ap, ◌∙◌, subst, inl, inr, arith}
-use Rattle.std.specs.List.{AllByRecursion as All}
+use Rattle.std.specs.List.{AllByRecursion}
 use Rattle.std.proofs.ByRecursion.{All-weaker}
 use Rattle.std.proofs.lemmas.Bool.{le-ltb, cond-false}
 use Rattle.sheet.specs.declared.accepted.Sheet.{Sheet}
@@ -73,20 +73,20 @@ pub record Told (start : Machine) (log : List Exchange) (m : Machine) : Type 0 w
   pub constant : Constant start m
   pub clock_is : m.clock ≡ 1 + ticks log
   pub trace_is : m.trace ≡ commands log
-  pub origin : All (Origin m.policy.bank_name log) (unserved m)
+  pub origin : AllByRecursion (Origin m.policy.bank_name log) (unserved m)
   pub balanced : Balanced (unserved m) m.trace m.accepted
   pub numbered : Numbered log m.accepted
-  pub due : All (Due log) (unserved m)
+  pub due : AllByRecursion (Due log) (unserved m)
 
 pub opened_told : (s : Sheet) (k : Chip) (last : ℕ) (p : Meaning) → p.waiting ≡ [] → Told (opened s k last p) [] (opened s k last p)
 opened_told s k last p empty = record {
   constant = constant_opened (opened s k last p);
   clock_is = refl;
   trace_is = refl;
-  origin = subst (λ (es : List Entry). All (Origin p.bank_name []) es) (sym empty) tt;
+  origin = subst (λ (es : List Entry). AllByRecursion (Origin p.bank_name []) es) (sym empty) tt;
   balanced = subst (λ (es : List Entry). Balanced es [] (λ _. 0)) (sym empty) (λ r i. omega (arith, cond-false {A = ℕ} (ltb i 0) 1 0 (le-ltb i 0 (omega arith))));
   numbered = λ q i d a. absurd (no_element a.0 (record { event = offer q; answer = accepted i d }) a.1 a.2);
-  due = subst (λ (es : List Entry). All (Due []) es) (sym empty) tt;
+  due = subst (λ (es : List Entry). AllByRecursion (Due []) es) (sym empty) tt;
 }
 
 -- an exchange that is no acceptance

@@ -1,6 +1,6 @@
 -- Under turn order: deadlines lie at the ends of slots, each requester's at those of its own, and column commands go out there.
 use Rattle.std.proofs.Common.{◌≡◌, ℕ, ◌+◌, ◌-◌, ◌*◌, ◌%◌, ◌<◌, ◌≤◌, true, false, cond, eqb, ◌⊎◌, List, [], ◌∷◌, length, Some, None, Option, sym, refl, ap, ◌∙◌, subst, inl, inr, arith}
-use Rattle.std.specs.List.{insert, AllByRecursion as All}
+use Rattle.std.specs.List.{insert, AllByRecursion}
 use Rattle.std.proofs.lemmas.Bool.{ne_eqb}
 use Rattle.sheet.specs.declared.accepted.Sheet.{Sheet}
 use Rattle.sheet.specs.declared.geometry.Chip.{Chip}
@@ -42,7 +42,7 @@ pub record Turning (m : Machine) : Type 0 where
   pub in_turn : m.policy.order ≡ turn_order
   pub sound : TurnSound m.policy.span m.policy.requesters m.clock (base m) m.policy.waiting
   pub few : (r : ℕ) → length (own r m.policy.waiting) ≤ places_of m.policy.requesters 8 r
-  pub owned : All (Owned m.policy.span m.policy.requesters) (unserved m)
+  pub owned : AllByRecursion (Owned m.policy.span m.policy.requesters) (unserved m)
   pub columns : Every (InSlot m.policy.span m.policy.requesters) m.trace
 
 pub opened_turns : (s : Sheet) (k : Chip) (last : ℕ) (p : Meaning) → Fits s k last p → p.order ≡ turn_order → Turning (opened s k last p)
@@ -50,7 +50,7 @@ opened_turns s k last p f o = record {
   in_turn = o;
   sound = subst (λ (es : List Entry). TurnSound p.span p.requesters 1 0 es) (sym f.nothing_waits) (turn_fresh p.span p.requesters (omega (arith, f.shaped.span_bound)));
   few = λ r. subst (λ (es : List Entry). length (own r es) ≤ places_of p.requesters 8 r) (sym f.nothing_waits) (omega arith);
-  owned = subst (λ (es : List Entry). All (Owned p.span p.requesters) es) (sym f.nothing_waits) tt;
+  owned = subst (λ (es : List Entry). AllByRecursion (Owned p.span p.requesters) es) (sym f.nothing_waits) tt;
   columns = tt;
 }
 
@@ -125,7 +125,7 @@ held m e c is ready holds column =
     is ∙ next_asks o m.clock e moves ∙ ap (λ (t : ℕ). column_for t e) (ready.1 holds moves)
 
 served_turns : (m : Machine) (s : Service) (answer : Option Command) (then : Option Service) → m.service ≡ Some s → Goes m (Some s) answer then → Running m → m.policy.order ≡ turn_order →
-    Midway m m.policy.waiting s → ((r : ℕ) → length (own r m.policy.waiting) ≤ places_of m.policy.requesters 8 r) → All (Owned m.policy.span m.policy.requesters) (s.entry ∷ m.policy.waiting) → Every (InSlot m.policy.span m.policy.requesters) m.trace → Turning (sent m answer then)
+    Midway m m.policy.waiting s → ((r : ℕ) → length (own r m.policy.waiting) ≤ places_of m.policy.requesters 8 r) → AllByRecursion (Owned m.policy.span m.policy.requesters) (s.entry ∷ m.policy.waiting) → Every (InSlot m.policy.span m.policy.requesters) m.trace → Turning (sent m answer then)
 served_turns m s None then v g r o h few owned columns = subst (λ (x : Option Service). Turning (sent m None x)) (sym g.1) (record {
   in_turn = o;
   sound = ends_soon Idle s m.policy.span m.policy.requesters h.clock m.clock m.policy.waiting h.soon (within_span m s (stage_of m s v r) r.span_fits) h.sound;
@@ -153,7 +153,7 @@ idle_turns m v late r t =
       sound = subst (λ (b : ℕ). TurnSound w m.policy.requesters (m.clock + 1) b m.policy.waiting) (omega arith)
           (turn_idle w m.policy.requesters m.clock m.policy.waiting some (all_inside m.policy.requesters 8 m.policy.waiting t.few) (none_starts w m.clock m.policy.waiting some late) now);
       few = t.few;
-      owned = subst (λ (o : Option Service). All (Owned w m.policy.requesters) (unserved_of o m.policy.waiting)) v t.owned;
+      owned = subst (λ (o : Option Service). AllByRecursion (Owned w m.policy.requesters) (unserved_of o m.policy.waiting)) v t.owned;
       columns = t.columns;
     }
 
@@ -166,7 +166,7 @@ given_sound m es e v w on r t =
     let span = m.policy.span in
     let n = m.policy.requesters in
     let now : TurnSound span n m.clock (m.clock - 1) (e ∷ es) = subst (λ (xs : List Entry). TurnSound span n m.clock (m.clock - 1) xs) w (subst (λ (o : Option Service). TurnSound span n m.clock (base_at m.clock span o) m.policy.waiting) v t.sound) in
-    let inside : All (λ (x : Entry). x.requester < n) (e ∷ es) = subst (λ (xs : List Entry). All (λ (x : Entry). x.requester < n) xs) w (all_inside n 8 m.policy.waiting t.few) in
+    let inside : AllByRecursion (λ (x : Entry). x.requester < n) (e ∷ es) = subst (λ (xs : List Entry). AllByRecursion (λ (x : Entry). x.requester < n) xs) w (all_inside n 8 m.policy.waiting t.few) in
     turn_given span n m.clock e es (omega (arith, r.shaped.span_bound)) inside.0 (omega (arith, on (r.shaped.turns_hold t.in_turn))) now
 
 half_turns : (m : Machine) (pc : ℕ) (es : List Entry) (now : Option Service) (s : Service) (answer : Option Command) (then : Option Service) → Begins m es now → now ≡ Some s → Goes (begun m pc es now) now answer then → Running m → Turning m →
@@ -179,7 +179,7 @@ half_turns m pc es now s answer then b is g r t sound few =
       | inr x ↦ record { clock = m.clock + 1; soon = omega arith; sound = x }
     ] in
     served_turns k s answer then is (subst (λ (o : Option Service). Goes k o answer then) is g) (begins_runs m pc es now b r) t.in_turn half few
-    (subst (λ (o : Option Service). All (Owned m.policy.span m.policy.requesters) (unserved_of o es)) is (subst (λ (xs : List Entry). All (Owned m.policy.span m.policy.requesters) xs) (sym (same_unserved m es now b)) t.owned))
+    (subst (λ (o : Option Service). AllByRecursion (Owned m.policy.span m.policy.requesters) (unserved_of o es)) is (subst (λ (xs : List Entry). AllByRecursion (Owned m.policy.span m.policy.requesters) xs) (sym (same_unserved m es now b)) t.owned))
     t.columns
 
 tick_turns : (m : Machine) (answer : Option Command) (then : Option Service) (pc : ℕ) (es : List Entry) (now : Option Service) → Begins m es now → Goes (begun m pc es now) now answer then → Running m → Turning m → Turning (sent (begun m pc es now) answer then)
@@ -201,7 +201,7 @@ tick_turns m answer then pc es now (idle v w is late) g r t =
       in_turn = t.in_turn;
       sound = subst (λ (xs : List Entry). TurnSound m.policy.span m.policy.requesters m.clock (base_at m.clock m.policy.span now) xs) (sym w) (subst (λ (o : Option Service). TurnSound m.policy.span m.policy.requesters m.clock (base_at m.clock m.policy.span o) m.policy.waiting) (v ∙ sym is) t.sound);
       few = few_on m es w t;
-      owned = subst (λ (xs : List Entry). All (Owned m.policy.span m.policy.requesters) xs) (sym (same_unserved m es now (idle v w is late))) t.owned;
+      owned = subst (λ (xs : List Entry). AllByRecursion (Owned m.policy.span m.policy.requesters) xs) (sym (same_unserved m es now (idle v w is late))) t.owned;
       columns = t.columns;
     })))
 

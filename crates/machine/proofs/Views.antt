@@ -1,6 +1,6 @@
 -- A requester's view of a session under turn order: the clock, and the column commands promised to it. It goes on by the ticks and the requester's own offers alone.
 use Rattle.std.proofs.Common.{◌≡◌, ℕ, ◌+◌, ◌-◌, ◌*◌, ◌<◌, ◌≤◌, Bool, true, false, cond, ◌&&◌, eqb, ltb, leb, List, [], ◌∷◌, ◌++◌, map, length, Some, None, filter, Option, sym, refl, ap, ◌∙◌, append-nil, arith}
-use Rattle.std.specs.List.{AllByRecursion as All}
+use Rattle.std.specs.List.{AllByRecursion}
 use Rattle.std.proofs.lemmas.List.{map-append, length-map}
 use Rattle.std.proofs.lemmas.List.Elements.{filter-append}
 use Rattle.std.proofs.ByRecursion.{all_kept_by, All-weaker, All-map}
@@ -97,16 +97,16 @@ own_split r None es = refl
 own_split r (Some s) es = elim (eqb s.entry.requester r) as (λ b. cond b (s.entry ∷ own r es) (own r es) ≡ cond b (s.entry ∷ []) [] ++ own r es) [ true ↦ refl | false ↦ refl ]
 
 -- commands that went out lie before the clock
-sent_before : (r : ℕ) (m : Machine) → Running m → All (λ c. c.cycle < m.clock) (columns_of r m.trace)
+sent_before : (r : ℕ) (m : Machine) → Running m → AllByRecursion (λ c. c.cycle < m.clock) (columns_of r m.trace)
 sent_before r m run = all_kept_by (λ (c : Command). is_column c.kind && eqb c.requester r) (λ c. c.cycle < m.clock) m.trace (all_from (λ c. c.cycle < m.clock) m.trace run.before)
 
 -- a service that began needs less than a span
-serving_soon : (m : Machine) (o : Option Service) → Begun m.clock o → Staged m o → m.policy.holds ≡ true → All (λ e. e.deadline + 1 < m.clock + m.policy.span) (unserved_of o [])
+serving_soon : (m : Machine) (o : Option Service) → Begun m.clock o → Staged m o → m.policy.holds ≡ true → AllByRecursion (λ e. e.deadline + 1 < m.clock + m.policy.span) (unserved_of o [])
 serving_soon m None b g h = tt
 serving_soon m (Some s) b g h = (omega (arith, g.on_time h), tt)
 
 -- what waits has a span to come
-waiting_far : (clock span base : ℕ) (es : List Entry) → clock ≤ base + 1 → Timely span base es → All (λ e. clock + span ≤ e.deadline + 1) es
+waiting_far : (clock span base : ℕ) (es : List Entry) → clock ≤ base + 1 → Timely span base es → AllByRecursion (λ e. clock + span ≤ e.deadline + 1) es
 waiting_far clock span base [] l t = tt
 waiting_far clock span base (e ∷ es) l t = (omega (arith, t.0), waiting_far clock span (base + span) es (omega arith) t.1)
 

@@ -1,6 +1,6 @@
 -- The calls of turn order, from the rooms before and after them.
 use Rattle.std.proofs.Common.{◌≡◌, ℕ, ◌+◌, ◌-◌, ◌*◌, ◌<◌, ◌≤◌, true, false, List, [], ◌∷◌, length, take, drop, Some, None, Option, sym, refl, ap, ◌∙◌, subst, arith}
-use Rattle.std.specs.List.{insert, AllByRecursion as All}
+use Rattle.std.specs.List.{insert, AllByRecursion}
 use Rattle.std.proofs.lemmas.List.{take-append-drop}
 use Rattle.std.proofs.lemmas.Bool.{eqb-true, ltb-true, false≢true}
 use Rattle.policy.specs.declared.entry.Entry.{Entry}
@@ -55,7 +55,7 @@ turn_taken r s c b given ahead numbers e f left at which moved made count deadli
     )
 
 -- what is given is the first entry, at the start of its slot
-given_first : (w n c : ℕ) (es : List Entry) (o : Option Entry) → 1 ≤ w → All (λ e. e.requester < n) es → starts_now w c (entry_at 0 es) ≡ true → o ≡ entry_at 0 es → TurnSound w n c (c - 1) es → (e : Entry) × (o ≡ Some e) × (es ≡ e ∷ drop 1 es) × (e.deadline ≡ c + w - 1) × TurnSound w n (c + 1) ((c + w) - 1) (drop 1 es)
+given_first : (w n c : ℕ) (es : List Entry) (o : Option Entry) → 1 ≤ w → AllByRecursion (λ e. e.requester < n) es → starts_now w c (entry_at 0 es) ≡ true → o ≡ entry_at 0 es → TurnSound w n c (c - 1) es → (e : Entry) × (o ≡ Some e) × (es ≡ e ∷ drop 1 es) × (e.deadline ≡ c + w - 1) × TurnSound w n (c + 1) ((c + w) - 1) (drop 1 es)
 given_first w n c [] o some inside now given sound = absurd (false≢true now)
 given_first w n c (e ∷ es) o some inside now given sound =
     let ends : e.deadline ≡ c + w - 1 = eqb-true e.deadline (c + w - 1) now in

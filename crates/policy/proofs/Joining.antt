@@ -1,6 +1,6 @@
 -- An entry joins the turn order: its slot is free, its place follows from its deadline, and each requester's entries stay in its own slots.
 use Rattle.std.proofs.Common.{◌≡◌, ℕ, suc, ◌+◌, ◌*◌, ◌%◌, ◌<◌, ◌≤◌, true, false, cond, eqb, ◌⊎◌, List, [], ◌∷◌, ◌++◌, length, take, drop, sym, refl, ap, ◌∙◌, subst, inl, inr, mul-le-mul_right, arith}
-use Rattle.std.specs.List.{insert, AllByRecursion as All}
+use Rattle.std.specs.List.{insert, AllByRecursion}
 use Rattle.std.proofs.lemmas.List.Elements.{filter-append}
 use Rattle.std.proofs.ByRecursion.{All-weaker}
 use Rattle.std.proofs.lemmas.List.{nil_from_length, take-append-drop}
@@ -18,7 +18,7 @@ abbrev pub Clear : ℕ → ℕ → ℕ → Entry → Type 0
 Clear w r d e = (e.deadline + w ≤ d) ⊎ ((d + w ≤ e.deadline) × (e.requester ≡ r → ⊥))
 
 -- entries in consecutive slots, each with its place among them
-consecutive_each : (w n f : ℕ) (es : List Entry) → Consecutive w n f es → All (λ e. (j : ℕ) × (j < length es) × (e.deadline ≡ slot_end w (f + j * n))) es
+consecutive_each : (w n f : ℕ) (es : List Entry) → Consecutive w n f es → AllByRecursion (λ e. (j : ℕ) × (j < length es) × (e.deadline ≡ slot_end w (f + j * n))) es
 consecutive_each w n f [] s = tt
 consecutive_each w n f (e ∷ es) s = (
   (0, omega arith, s.0 ∙ ap (λ x. slot_end w x) (omega arith)),
@@ -42,13 +42,13 @@ beside w n k r q s j e h l few d = elim (cases_eq s r) [
 ]
 
 -- the slot that a requester gets next is clear of all others
-pub slot_clear : (w n k r q : ℕ) (es : List Entry) → r < n → ((s : ℕ) → length (own s es) ≤ places_of n q s) → ((s : ℕ) → s < n → Consecutive w n (own_slot n s k) (own s es)) → All (Clear w r (slot_end w (own_slot n r k + length (own r es) * n))) es
+pub slot_clear : (w n k r q : ℕ) (es : List Entry) → r < n → ((s : ℕ) → length (own s es) ≤ places_of n q s) → ((s : ℕ) → s < n → Consecutive w n (own_slot n s k) (own s es)) → AllByRecursion (Clear w r (slot_end w (own_slot n r k + length (own r es) * n))) es
 slot_clear w n k r q es h few owned =
     let d = slot_end w (own_slot n r k + length (own r es) * n) in
     own_each (λ (s : ℕ) (e : Entry). (e.deadline + w ≤ d) ⊎ ((d + w ≤ e.deadline) × (s ≡ r → ⊥))) es (λ s. elim (cases_lt s n) [
       | inl l ↦ All-weaker (λ (e : Entry). (j : ℕ) × (j < length (own s es)) × (e.deadline ≡ slot_end w (own_slot n s k + j * n))) (λ (e : Entry). (e.deadline + w ≤ d) ⊎ ((d + w ≤ e.deadline) × (s ≡ r → ⊥)))
           (λ e p. beside w n k r (length (own r es)) s p.0 e h l (λ i. subst (λ x. p.0 < length (own x es)) i p.1) p.2) (own s es) (consecutive_each w n (own_slot n s k) (own s es) (owned s l))
-      | inr l ↦ subst (λ t. All (λ (e : Entry). (e.deadline + w ≤ d) ⊎ ((d + w ≤ e.deadline) × (s ≡ r → ⊥))) t) (sym (nil_from_length (own s es) (omega (arith, few s, places_outside n q s l)))) tt
+      | inr l ↦ subst (λ t. AllByRecursion (λ (e : Entry). (e.deadline + w ≤ d) ⊎ ((d + w ≤ e.deadline) × (s ≡ r → ⊥))) t) (sym (nil_from_length (own s es) (omega (arith, few s, places_outside n q s l)))) tt
     ])
 
 -- nothing is due before a cycle from which deadlines are apart
@@ -65,7 +65,7 @@ last_counted : (w d : ℕ) (x : Entry) (es : List Entry) → d ≤ x.deadline �
 last_counted w d x es h a = ap (λ b. length (cond b (x ∷ due_before d es) (due_before d es))) (le-ltb x.deadline d h) ∙ none_before w x.deadline d es h a
 
 -- deadlines stay a span apart where an entry joins after those due before it
-pub joined_apart : (w low : ℕ) (e : Entry) (es : List Entry) → 1 ≤ w → low + w ≤ e.deadline → Apart w low es → All (Clear w e.requester e.deadline) es → Apart w low (insert es (length (due_before e.deadline es)) e)
+pub joined_apart : (w low : ℕ) (e : Entry) (es : List Entry) → 1 ≤ w → low + w ≤ e.deadline → Apart w low es → AllByRecursion (Clear w e.requester e.deadline) es → Apart w low (insert es (length (due_before e.deadline es)) e)
 joined_apart w low e [] o h a c = (h, tt)
 joined_apart w low e (x ∷ es) o h a c = elim c.0 [
   | inl l ↦ subst (λ p. Apart w low (insert (x ∷ es) p e)) (sym (counted e.deadline x es (omega arith))) (a.0, joined_apart w x.deadline e es o l a.1 c.1)
@@ -73,7 +73,7 @@ joined_apart w low e (x ∷ es) o h a c = elim c.0 [
 ]
 
 -- a requester has none among entries that are clear of its slot and due after it
-own_none : (w r d : ℕ) (es : List Entry) → 1 ≤ w → All (λ e. d ≤ e.deadline) es → All (Clear w r d) es → own r es ≡ []
+own_none : (w r d : ℕ) (es : List Entry) → 1 ≤ w → AllByRecursion (λ e. d ≤ e.deadline) es → AllByRecursion (Clear w r d) es → own r es ≡ []
 own_none w r d [] o l c = refl
 own_none w r d (e ∷ es) o l c = elim c.0 [
   | inl u ↦ absurd (omega (arith, l.0))
@@ -81,7 +81,7 @@ own_none w r d (e ∷ es) o l c = elim c.0 [
 ]
 
 -- the entry that joins is its requester's last
-pub joined_own : (w low : ℕ) (e : Entry) (es : List Entry) → 1 ≤ w → Apart w low es → All (Clear w e.requester e.deadline) es → own e.requester (insert es (length (due_before e.deadline es)) e) ≡ own e.requester es ++ (e ∷ [])
+pub joined_own : (w low : ℕ) (e : Entry) (es : List Entry) → 1 ≤ w → Apart w low es → AllByRecursion (Clear w e.requester e.deadline) es → own e.requester (insert es (length (due_before e.deadline es)) e) ≡ own e.requester es ++ (e ∷ [])
 joined_own w low e [] o a c = own_first e []
 joined_own w low e (x ∷ es) o a c =
     let r = e.requester in
@@ -94,7 +94,7 @@ joined_own w low e (x ∷ es) o a c =
             | false ↦ joined_own w x.deadline e es o a.1 c.1
           ]
       | inr m ↦
-          let late : All (λ y. e.deadline ≤ y.deadline) (x ∷ es) = (omega (arith, m.0), All-weaker (λ (y : Entry). x.deadline + w ≤ y.deadline) (λ (y : Entry). e.deadline ≤ y.deadline) (λ y k. omega (arith, m.0)) es (apart_late w x.deadline es a.1)) in
+          let late : AllByRecursion (λ y. e.deadline ≤ y.deadline) (x ∷ es) = (omega (arith, m.0), All-weaker (λ (y : Entry). x.deadline + w ≤ y.deadline) (λ (y : Entry). e.deadline ≤ y.deadline) (λ y k. omega (arith, m.0)) es (apart_late w x.deadline es a.1)) in
           let none : own r (x ∷ es) ≡ [] = own_none w r e.deadline (x ∷ es) o late c in
           ap (λ p. own r (insert (x ∷ es) p e)) (last_counted w e.deadline x es (omega (arith, m.0)) a.1)
           ∙ own_first e (x ∷ es) ∙ ap (λ t. e ∷ t) none ∙ sym (ap (λ t. t ++ (e ∷ [])) none)
@@ -126,7 +126,7 @@ turn_joined w n q c b e es o h few s d =
     let r = e.requester in
     let k = s.next in
     let place = length (due_before e.deadline es) in
-    let clear : All (Clear w r e.deadline) es = subst (λ x. All (Clear w r x) es) (sym d) (slot_clear w n k r q es h few s.owned) in
+    let clear : AllByRecursion (Clear w r e.deadline) es = subst (λ x. AllByRecursion (Clear w r x) es) (sym d) (slot_clear w n k r q es h few s.owned) in
     let low : k * w + w ≤ e.deadline = omega (arith, mul-le-mul_right {m = k + 1} {n = own_slot n r k + length (own r es) * n + 1} w (omega (arith, own_slot_late n r k))) in record {
       next = k;
       started = s.started;

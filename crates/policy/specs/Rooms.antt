@@ -1,7 +1,7 @@
 -- Counting the entries of a room: where one more has a place, fewer wait than there are places.
 use Rattle.std.specs.Prelude.{◌≡◌, ℕ, zero, suc, ◌+◌, ◌*◌, ◌<◌, ◌≤◌, true, false, cond, not, List, [], ◌∷◌, ◌++◌, length, take, drop, filter, ◌==◌, ◌≢◌, nat_eq, nat_lt, refl}
 use Rattle.std.proofs.Common.{sym, ap, subst, ◌∙◌, inl, inr, arith, suc-mul}
-use Rattle.std.specs.List.{insert, AllByRecursion as All}
+use Rattle.std.specs.List.{insert, AllByRecursion}
 use Rattle.std.proofs.lemmas.List.{nil_from_length, take-append-drop}
 use Rattle.std.proofs.ByRecursion.{All-weaker, kept_by_passes}
 use Rattle.std.proofs.lemmas.Bool.{eq-eqb, ne_eqb, lt-ltb, le-ltb, cond-true, cond-false, cases_Bool, cases_eq, cases_lt, cases_order}
@@ -98,16 +98,16 @@ pub room_left : (n q : ℕ) (e : Entry) (es : List Entry) → ((r : ℕ) → len
 room_left n q e es h l = few_wait n q (e ∷ es) (still_few n q 0 es (e ∷ es) e h l refl)
 
 -- what each requester's own entries are, each entry is
-pub own_each : (P : ℕ → Entry → Type 0) (es : List Entry) → ((r : ℕ) → All (P r) (own r es)) → All (λ e. P e.requester e) es
+pub own_each : (P : ℕ → Entry → Type 0) (es : List Entry) → ((r : ℕ) → AllByRecursion (P r) (own r es)) → AllByRecursion (λ e. P e.requester e) es
 own_each P [] h = tt
 own_each P (e ∷ es) h = (
-  (subst (λ t. All (P e.requester) t) (own_first e es) (h e.requester)).0,
-  own_each P es (λ r. elim (e.requester == r) as (λ b. All (P r) (cond b (e ∷ own r es) (own r es)) → All (P r) (own r es)) [ true ↦ λ a. a.1 | false ↦ λ a. a ] (h r)),
+  (subst (λ t. AllByRecursion (P e.requester) t) (own_first e es) (h e.requester)).0,
+  own_each P es (λ r. elim (e.requester == r) as (λ b. AllByRecursion (P r) (cond b (e ∷ own r es) (own r es)) → AllByRecursion (P r) (own r es)) [ true ↦ λ a. a.1 | false ↦ λ a. a ] (h r)),
 )
 
 -- all entries are of requesters
-pub all_inside : (n q : ℕ) (es : List Entry) → ((r : ℕ) → length (own r es) ≤ places_of n q r) → All (λ e. e.requester < n) es
+pub all_inside : (n q : ℕ) (es : List Entry) → ((r : ℕ) → length (own r es) ≤ places_of n q r) → AllByRecursion (λ e. e.requester < n) es
 all_inside n q es few = own_each (λ (r : ℕ) (e : Entry). r < n) es (λ r. elim (cases_lt r n) [
   | inl l ↦ All-weaker (λ (e : Entry). (e.requester == r) ≡ true) (λ (e : Entry). r < n) (λ e _. l) (own r es) (kept_by_passes (λ (e : Entry). nat_eq e.requester r) es)
-  | inr l ↦ subst (λ t. All (λ (e : Entry). r < n) t) (sym (nil_from_length (own r es) (omega (arith, few r, places_outside n q r l)))) tt
+  | inr l ↦ subst (λ t. AllByRecursion (λ (e : Entry). r < n) t) (sym (nil_from_length (own r es) (omega (arith, few r, places_outside n q r l)))) tt
 ])

@@ -1,7 +1,7 @@
 -- Turn order keeps its soundness.
 use Rattle.std.specs.Prelude.{◌≡◌, ℕ, ◌+◌, ◌-◌, ◌*◌, ◌<◌, ◌≤◌, false, List, [], ◌∷◌, nat_eq}
 use Rattle.std.proofs.Common.{sym, ap, subst, ◌∙◌, inl, inr, arith}
-use Rattle.std.specs.List.{AllByRecursion as All}
+use Rattle.std.specs.List.{AllByRecursion}
 use Rattle.std.proofs.ByRecursion.{All-weaker, all_kept_by}
 use Rattle.std.proofs.lemmas.Bool.{cases_eq, cases_lt, eqb-false}
 use Rattle.policy.specs.declared.entry.Entry.{Entry}
@@ -17,12 +17,12 @@ apart_timely w b low [] h a = tt
 apart_timely w b low (e ∷ es) h a = (omega (arith, a.0), apart_timely w (b + w) e.deadline es (omega (arith, a.0)) a.1)
 
 -- each deadline lies a span after the cycle from which they are apart
-pub apart_late : (w low : ℕ) (es : List Entry) → Apart w low es → All (λ e. low + w ≤ e.deadline) es
+pub apart_late : (w low : ℕ) (es : List Entry) → Apart w low es → AllByRecursion (λ e. low + w ≤ e.deadline) es
 apart_late w low [] a = tt
 apart_late w low (e ∷ es) a = (a.0, All-weaker (λ (x : Entry). e.deadline + w ≤ x.deadline) (λ (x : Entry). low + w ≤ x.deadline) (λ x h. omega (arith, a.0)) es (apart_late w e.deadline es a.1))
 
 -- where a requester's entries are due after slot k, its first slot from k on is its first from k + 1 on
-later_slots : (w n r k : ℕ) (es : List Entry) → 1 ≤ w → r < n → All (λ e. (k + 1) * w + w ≤ e.deadline) es → Consecutive w n (own_slot n r k) es → Consecutive w n (own_slot n r (k + 1)) es
+later_slots : (w n r k : ℕ) (es : List Entry) → 1 ≤ w → r < n → AllByRecursion (λ e. (k + 1) * w + w ≤ e.deadline) es → Consecutive w n (own_slot n r k) es → Consecutive w n (own_slot n r (k + 1)) es
 later_slots w n r k [] o h a s = tt
 later_slots w n r k (e ∷ es) o h a s =
     let late : k < own_slot n r k = slot_later w k (own_slot n r k) (omega (arith, a.0, s.0)) in
@@ -89,7 +89,7 @@ idle_at w n c es o s start a = record {
 }
 
 -- where the first entry's slot does not start now, all slots that entries have come later
-none_now : (w n c : ℕ) (es : List Entry) → 1 ≤ w → All (λ e. e.requester < n) es → starts_now w c (entry_at 0 es) ≡ false → (s : TurnSound w n c (c - 1) es) → c ≡ s.next * w + 1 → Apart w ((s.next + 1) * w) es
+none_now : (w n c : ℕ) (es : List Entry) → 1 ≤ w → AllByRecursion (λ e. e.requester < n) es → starts_now w c (entry_at 0 es) ≡ false → (s : TurnSound w n c (c - 1) es) → c ≡ s.next * w + 1 → Apart w ((s.next + 1) * w) es
 none_now w n c [] o inside f s start = tt
 none_now w n c (e ∷ es) o inside f s start =
     let r = e.requester in
@@ -104,7 +104,7 @@ none_now w n c (e ∷ es) o inside f s start =
     (omega (arith, slot_end_apart w k slot late), s.apart.1)
 
 -- a turn that gives nothing
-pub turn_idle : (w n c : ℕ) (es : List Entry) → 1 ≤ w → All (λ e. e.requester < n) es → starts_now w c (entry_at 0 es) ≡ false → TurnSound w n c (c - 1) es → TurnSound w n (c + 1) c es
+pub turn_idle : (w n c : ℕ) (es : List Entry) → 1 ≤ w → AllByRecursion (λ e. e.requester < n) es → starts_now w c (entry_at 0 es) ≡ false → TurnSound w n c (c - 1) es → TurnSound w n (c + 1) c es
 turn_idle w n c es o inside f s = elim (cases_lt c (s.next * w + 1)) [
   | inl l ↦ idle_before w n c es s l
   | inr l ↦
