@@ -2,7 +2,7 @@
  * Dorwithel's checker for C: one call that judges a captured DDR3 command
  * trace by a timing sheet.
  *
- * Link with target/staticlib/libchecker.a, which `rt staticlib checker` makes.
+ * Link with target/staticlib/libchecker.a, which `c/build` makes.
  * Nothing else is needed. The script c/run does both.
  */
 #ifndef DORWITHEL_H

@@ -9,7 +9,7 @@ use Rattle.rulebook.specs.declared.command.Command.{Command}
 use Rattle.rulebook.specs.declared.book.Book.{Book}
 use Rattle.trace.specs.Line.{command_in}
 use Rattle.trace.specs.Text.{line_at, line_count, lines_of, command_at}
-use Rattle.trace.proofs.TextLaws.{length_lines, getD_lines}
+use Rattle.trace.proofs.TextLaws.{length_lines, get_or_lines}
 use Rattle.trace.proofs.ReadLaws.{known_command}
 use Rattle.checker.specs.Judging.{LawfulLines, JudgedLine, JudgedLines}
 use Rattle.checker.specs.declared.refusals.TextRefusal.{TextRefusal}
@@ -50,7 +50,7 @@ line_refused s k text line b new (Board why) h f j = absurd j
 line_refused s k text line b new (Malformed at) h f j =
     let lines = lines_of text in
     let within : line < length (lines_of text) = omega (arith, length_lines text) in
-    let fails = malformed_fails s k lines line within (ap command_in (getD_lines text line h) ∙ j.1) in
+    let fails = malformed_fails s k lines line within (ap command_in (get_or_lines text line h) ∙ j.1) in
     subst (λ (l : ℕ). JudgedLines s k text (Err (Malformed l))) (sym j.0) (fails, h, (map command_at (take line lines), f.lawful), j.1)
 line_refused s k text line b new (Broken at rule) h f j =
     let lines = lines_of text in
@@ -58,5 +58,5 @@ line_refused s k text line b new (Broken at rule) h f j =
     let cs = map command_at (take line lines) in
     let c = j.1.0 in
     let breaks = refused_by s k cs b new c rule f.summary f.lawful.obeys j.1.2 in
-    let fails = line_fails s k lines line cs c rule within f.lawful.stand_for (ap command_in (getD_lines text line h) ∙ j.1.1) breaks in
+    let fails = line_fails s k lines line cs c rule within f.lawful.stand_for (ap command_in (get_or_lines text line h) ∙ j.1.1) breaks in
     subst (λ (l : ℕ). JudgedLines s k text (Err (Broken l rule))) (sym j.0) (fails, h, (cs, f.lawful, (c, j.1.1, breaks)))

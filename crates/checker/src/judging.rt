@@ -1,5 +1,5 @@
 // Judging a trace as text, by the sheet and chip of a sheet line.
-ghost use Rattle.std.specs.Prelude.{◌≡◌, ◌^◌, ◌<◌};
+ghost use Rattle.std.specs.Prelude.{◌^◌, ◌<◌};
 ghost use Rattle.checker.specs.Judging.{JudgedText};
 ghost use Rattle.checker.specs.Packing.{low_part};
 

@@ -1,4 +1,4 @@
--- What the contracts of this crate cite.
+-- What the contracts of this crate cite, and the lemmas that the laws of its policies cite.
 pub mod Meaning
 pub mod Waiting
 pub mod Making

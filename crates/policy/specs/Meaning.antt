@@ -1,5 +1,5 @@
 -- What a policy means, and what its two calls do to that meaning.
-use Rattle.std.specs.Prelude.{◌≡◌, ℕ, ◌+◌, ◌-◌, ◌*◌, ◌/◌, ◌%◌, ◌<◌, ◌≤◌, Bool, true, cond, ltb, List, [], ◌∷◌, ◌++◌, length, Some, None, filter, Option, nat_eq, nat_lt}
+use Rattle.std.specs.Prelude.{◌≡◌, ℕ, ◌+◌, ◌-◌, ◌*◌, ◌/◌, ◌%◌, ◌<◌, ◌≤◌, Bool, true, cond, List, [], ◌∷◌, ◌++◌, length, Some, None, filter, Option, nat_eq, nat_lt}
 use Rattle.std.specs.List.{insert}
 use Rattle.policy.specs.declared.entry.Entry.{Entry}
 
@@ -54,7 +54,7 @@ own r es = filter (λ e. nat_eq e.requester r) es
 
 -- The entries whose deadlines come before this one.
 abbrev pub due_before : ℕ → List Entry → List Entry
-due_before deadline es = filter (λ e. ltb e.deadline deadline) es
+due_before deadline es = filter (λ e. nat_lt e.deadline deadline) es
 
 -- The places of requester r, where each of n requesters has q and no other has one.
 abbrev pub places_of : ℕ → ℕ → ℕ → ℕ

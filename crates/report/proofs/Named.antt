@@ -22,7 +22,7 @@ use Rattle.trace.specs.Line.{command_in}
 use Rattle.trace.specs.Text.{no_command, line_at, line_count, lines_of}
 use Rattle.trace.specs.declared.board.Board.{Board}
 use Rattle.trace.specs.declared.board.BoardRefusal.{BoardRefusal}
-use Rattle.trace.proofs.TextLaws.{length_lines, getD_lines}
+use Rattle.trace.proofs.TextLaws.{length_lines, get_or_lines}
 use Rattle.checker.specs.Judging.{JudgedLines, JudgedBy, JudgedText}
 use Rattle.checker.specs.declared.refusals.TextRefusal.{TextRefusal}
 use Rattle.checker.specs.declared.refusals.TextRefusal.TheVariants.{TooLong, Board as OfBoard, Malformed, Broken}
@@ -115,7 +115,7 @@ lines_stand text line cs h e =
       same,
       λ i below.
           let inside : i < length (take line (lines_of text)) = omega (arith, length-take-le line lines long) in
-          ap command_in (sym (getD_lines text i (omega arith)) ∙ sym (get_or-take line lines i [] (omega arith)))
+          ap command_in (sym (get_or_lines text i (omega arith)) ∙ sym (get_or-take line lines i [] (omega arith)))
           ∙ sym (get_or-map command_in (take line lines) i [] None inside)
           ∙ ap (λ (t : List (Option Command)). get_or t i None) e
           ∙ get_or-map Some cs i no_command None below,

@@ -1,6 +1,6 @@
 // A number as digits, for the packed answer.
 ghost use Rattle.std.specs.Prelude.{◌≡◌, ◌/◌, ◌%◌, ◌^◌, ◌<◌, IfOk, string_bytes};
-ghost use Rattle.trace.specs.Digits.{digit, digits};
+ghost use Rattle.trace.specs.Digits.{digit};
 ghost use Rattle.report.specs.Packed.{digit_char, packed_text};
 
 use std::alloc::{AllocError, Global};

@@ -1,5 +1,5 @@
 -- The compact record: the empty one, and what becomes of it as a command is taken in.
-use Rattle.std.specs.Prelude.{ℕ, cond, get_or, replicate, Some, None, Option, nat_lt, slice_index_or, slice_set}
+use Rattle.std.specs.Prelude.{ℕ, cond, replicate, Some, None, Option, nat_lt, slice_index_or, slice_set}
 use Rattle.rulebook.specs.declared.command.Command.{Command}
 use Rattle.rulebook.specs.declared.command.Kind.{Kind}
 use Rattle.rulebook.specs.declared.command.Kind.TheVariants.{Activate, Precharge, Read, Write}
@@ -59,4 +59,4 @@ book_with b c = record {
 
 -- the row at which a bank is open; none where it is closed or where there is no such bank
 abbrev pub open_row_of : Book → ℕ → Option ℕ
-open_row_of b i = cond (nat_lt i 16) (get_or b.banks i no_bank).open_row None
+open_row_of b i = cond (nat_lt i 16) (slice_index_or b.banks i no_bank).open_row None

@@ -1,5 +1,5 @@
 // Two units of time as two types. They meet in one place, the conversion that rounds up.
-ghost use Rattle.std.specs.Prelude.{◌≡◌, ℕ, ◌*◌, ◌≤◌, max, Bool, Some, decimal, nat_lt};
+ghost use Rattle.std.specs.Prelude.{◌≡◌, ℕ, ◌*◌, ◌≤◌, max, Some, decimal, nat_lt};
 ghost use Rattle.std.specs.Option.{option_map};
 ghost use Rattle.sheet.specs.Units.{picoseconds, cycles, rounded_up, period_of};
 

@@ -20,15 +20,15 @@ pub length_lines : (text : List ℕ) → length (lines_of text) ≡ line_count t
 unfolding lines_of
 length_lines text = length_pieces (line_count text) text
 
-getD_pieces : (n k : ℕ) (bs : List ℕ) → k < n → get_or (pieces n bs) k [] ≡ line_at bs k
-getD_pieces zero k bs h = absurd (omega arith)
-getD_pieces (suc n) zero bs h = refl
-getD_pieces (suc n) (suc k) bs h =
-    getD_pieces n k (drop 27 bs) (omega arith) ∙ ap (take 27) (drop-drop (27 * k) 27 bs ∙ ap (λ m. drop m bs) (omega arith))
+get_or_pieces : (n k : ℕ) (bs : List ℕ) → k < n → get_or (pieces n bs) k [] ≡ line_at bs k
+get_or_pieces zero k bs h = absurd (omega arith)
+get_or_pieces (suc n) zero bs h = refl
+get_or_pieces (suc n) (suc k) bs h =
+    get_or_pieces n k (drop 27 bs) (omega arith) ∙ ap (take 27) (drop-drop (27 * k) 27 bs ∙ ap (λ m. drop m bs) (omega arith))
 
-pub getD_lines : (text : List ℕ) (k : ℕ) → k < line_count text → get_or (lines_of text) k [] ≡ line_at text k
+pub get_or_lines : (text : List ℕ) (k : ℕ) → k < line_count text → get_or (lines_of text) k [] ≡ line_at text k
 unfolding lines_of
-getD_lines text k h = getD_pieces (line_count text) k text h
+get_or_lines text k h = get_or_pieces (line_count text) k text h
 
 -- the lines cover the text
 covered : (n : ℕ) → n ≤ 27 * rounded_up n 27

@@ -9,6 +9,6 @@ returns c =
     record {
       answer = read.answer;
       contents = read.contents;
-      «only_so» = read_only_so text c.read_checked.result old _ read.answer read.contents;
-      «reads_back» = reads_back text c.read_checked.result old _ read.answer read.contents;
+      only_so = read_only_so text c.read_checked.result old _ read.answer read.contents;
+      reads_back = reads_back text c.read_checked.result old _ read.answer read.contents;
     }

@@ -8,6 +8,6 @@ returns c =
     let read = c.read_fields.ensures in
     record {
       value = read;
-      «only_so» = sheet_only_so line c.read_fields.result read;
-      «reads_back» = λ f t. read ∙ sheet_reads_back line f t;
+      only_so = sheet_only_so line c.read_fields.result read;
+      reads_back = λ f t. read ∙ sheet_reads_back line f t;
     }
