@@ -1,4 +1,4 @@
-// The tests: when an offer is too late, a used policy, and the two-request listing.
+// The tests: refused offers in their order, a used policy, the two-request listing, and busy sessions run to their end.
 use crate::small::{SPAN, board, request};
 use controller::Session;
 use policy::{FirstCome, Policy, Spreading, TurnOrder};
@@ -80,11 +80,12 @@ fn a_used_policy_is_handed_back(rt: HostRuntime) -> Result<(), Fail> {
     }
 }
 
-// What a command says, to be compared: cycle, kind, row, column, requester, number.
-fn said(command: Command) -> (u32, u8, u16, u16, u8, u32) {
+// What a command says, to be compared: cycle, kind, bank, row, column, requester, number.
+fn said(command: Command) -> (u32, u8, u8, u16, u16, u8, u32) {
     (
         command.cycle,
         command.kind.number(),
+        command.bank,
         command.row,
         command.column,
         command.requester,
@@ -98,11 +99,11 @@ fn the_two_request_listing(rt: HostRuntime) -> Result<(), Fail> {
         return Err(Fail::new("not opened"));
     };
     let listing = [
-        (1, 1, 7, 0, 0, 0),
-        (4, 3, 7, 16, 0, 0),
-        (9, 2, 0, 0, 1, 0),
-        (12, 1, 9, 0, 1, 0),
-        (15, 4, 9, 0, 1, 0),
+        (1, 1, 0, 7, 0, 0, 0),
+        (4, 3, 0, 7, 16, 0, 0),
+        (9, 2, 0, 0, 0, 1, 0),
+        (12, 1, 0, 9, 0, 1, 0),
+        (15, 4, 0, 9, 0, 1, 0),
     ];
     let mut next: usize = 0;
     for clock in 1..40 {
