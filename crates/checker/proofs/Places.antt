@@ -1,6 +1,7 @@
 -- A refusal of a sheet line carries a place below 13, and a line or count of a text is small.
 use Rattle.std.proofs.Common.{◌≡◌, ℕ, zero, suc, ◌+◌, ◌^◌, ◌<◌, ◌≤◌, Bool, true, false, cond, ltb, List, [], ◌∷◌, length, drop, Some, None, Ok, Err, MatchBool, Option, Result, unwrap_or, sym, refl, ap, ◌∙◌, subst, arith, ltb-false}
-use Rattle.sheet.specs.First.{first_from, first_place}
+use Rattle.std.specs.List.{position_from}
+use Rattle.sheet.specs.First.{first_place}
 use Rattle.sheet.specs.Given.{over_limit, value_outside}
 use Rattle.sheet.specs.Making.{Refused, refused, unless_at, late, sheet_made, Sizes}
 use Rattle.sheet.specs.Units.{within}
@@ -10,43 +11,43 @@ use Rattle.trace.specs.Board.{Told, both, board_told, board_of, board_made, boar
 use Rattle.trace.specs.Fields.{and_then, field_in}
 use Rattle.trace.specs.SheetLine.{timing_in, timings_in, sizes_in, sheet_line_in}
 use Rattle.trace.specs.Text.{line_count}
-use Rattle.trace.specs.declared.board.Board.{Board as ReadBoard}
+use Rattle.sheet.specs.declared.board.Board.{Board as ReadBoard}
 use Rattle.trace.specs.declared.board.BoardRefusal.{BoardRefusal}
 use Rattle.trace.specs.declared.sheet_line.SheetLine.{SheetLine}
-use Rattle.trace.proofs.Correspond.{some_same}
+use Rattle.std.proofs.lemmas.Option.{same_Some}
 use Rattle.checker.specs.Judging.{JudgedBy, JudgedText}
 use Rattle.checker.specs.Packing.{low_part}
 use Rattle.checker.specs.declared.refusals.TextRefusal.{TextRefusal}
 use Rattle.checker.specs.declared.refusals.TextRefusal.TheVariants.{TooLong, Board, Malformed, Broken}
 
 -- a place that a search finds lies inside the list
-found_below : {X : Type 0} (such : X → Bool) (xs : List X) (k : ℕ) → unwrap_or (first_from such k xs) 0 < k + length xs + 1
+found_below : {X : Type 0} (such : X → Bool) (xs : List X) (k : ℕ) → unwrap_or (position_from such k xs) 0 < k + length xs + 1
 found_below such [] k = omega arith
 found_below such (x ∷ xs) k = by_test (such x) (found_below such xs (k + 1))
   where
-    by_test : (b : Bool) → unwrap_or (first_from such (k + 1) xs) 0 < k + 1 + length xs + 1 → unwrap_or (cond b (Some k) (first_from such (k + 1) xs)) 0 < k + length (x ∷ xs) + 1
+    by_test : (b : Bool) → unwrap_or (position_from such (k + 1) xs) 0 < k + 1 + length xs + 1 → unwrap_or (cond b (Some k) (position_from such (k + 1) xs)) 0 < k + length (x ∷ xs) + 1
     by_test true h = omega arith
     by_test false h = omega arith
 
 -- what was there before something followed of it
 first_of : {X Y : Type 0} (o : Option Y) (f : Y → Option X) (x : X) → and_then o f ≡ Some x → (y : Y) × (o ≡ Some y) × (f y ≡ Some x)
-first_of None f x h = let z : ◌≡◌ {A = ℕ} 0 1 = cc in absurd (omega arith)
+first_of None f x h = cc
 first_of (Some y) f x h = (y, refl, h)
 
 timings_length : (n : ℕ) (bs : List ℕ) (ts : List Timing) → timings_in n bs ≡ Some ts → length ts ≡ n
 unfolding timings_in
-timings_length zero bs ts h = ap length (sym (some_same [] ts h))
+timings_length zero bs ts h = ap length (sym (same_Some [] ts h))
 timings_length (suc n) bs ts h =
     let t = first_of (timing_in bs) (λ t. and_then (timings_in n (drop 8 bs)) (λ us. Some (t ∷ us))) ts h in
     let us = first_of (timings_in n (drop 8 bs)) (λ us. Some (t.0 ∷ us)) ts t.2 in
-    ap length (sym (some_same (t.0 ∷ us.0) ts us.2)) ∙ ap suc (timings_length n (drop 8 bs) us.0 us.1)
+    ap length (sym (same_Some (t.0 ∷ us.0) ts us.2)) ∙ ap suc (timings_length n (drop 8 bs) us.0 us.1)
 
 line_timings : (bs : List ℕ) (f : SheetLine) → sheet_line_in bs ≡ Some f → length f.timings ≡ 13
 line_timings bs f h =
     let p = first_of (field_in 5 bs) _ f h in
     let ts = first_of (timings_in 13 (drop 5 bs)) _ f p.2 in
     let sizes = first_of (sizes_in (drop 104 (drop 5 bs))) _ f ts.2 in
-    ap (λ (g : SheetLine). length g.timings) (sym (some_same _ f sizes.2)) ∙ timings_length 13 (drop 5 bs) ts.0 ts.1
+    ap (λ (g : SheetLine). length g.timings) (sym (same_Some _ f sizes.2)) ∙ timings_length 13 (drop 5 bs) ts.0 ts.1
 
 -- a refusal as it is told carries a place below n, if any
 Placed : {X : Type 0} → ℕ → Result X Refused → Type 0

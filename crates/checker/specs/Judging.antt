@@ -10,7 +10,7 @@ use Rattle.rulebook.specs.declared.rule.Rule.{Rule}
 use Rattle.trace.specs.Line.{proper, command_in}
 use Rattle.trace.specs.Text.{no_command, line_at, line_count, lines_of, AllProper}
 use Rattle.trace.specs.Board.{board_told, board_made}
-use Rattle.trace.specs.declared.board.Board.{Board}
+use Rattle.sheet.specs.declared.board.Board.{Board}
 use Rattle.trace.specs.declared.board.BoardRefusal.{BoardRefusal}
 use Rattle.checker.specs.declared.refusals.RecordRefusal.{RecordRefusal}
 use Rattle.checker.specs.declared.refusals.RecordRefusal.TheVariants.{Improper, Broken as RecordBroken}

@@ -18,14 +18,13 @@ pub fn judge_text(sheet_line: &[u8], text: &[u8]) -> Result<usize, TextRefusal>
     judge_by_line(sheet_line, text)
 }
 
+// By the board that the sheet line gives; a function of its own, so that a wrong decision is refused here and the bound is added by its caller.
 fn judge_by_line(sheet_line: &[u8], text: &[u8]) -> Result<usize, TextRefusal>
     ensures { JudgedText sheet_line.now text.now result }
 {
     if text.len() > LONGEST {
         return Err(TextRefusal::TooLong);
     }
-    match read_board(sheet_line) {
-        Ok(board) => judge_lines(&board.sheet, &board.chip, text),
-        Err(why) => Err(TextRefusal::Board(why)),
-    }
+    let board = read_board(sheet_line)?;
+    judge_lines(&board, text)
 }

@@ -6,6 +6,7 @@ ghost use Rattle.checker.specs.Packing.{packed, GivesBack};
 
 use crate::judging::judge_text;
 use crate::refusals::TextRefusal;
+use rulebook::rule::Rule;
 
 // Judges a trace by a sheet line, both as bytes: refusal × 2^56 + rule × 2^48 + line, place or count.
 pub fn dorwithel_judge(sheet_line: &[u8], text: &[u8]) -> u64
@@ -14,7 +15,7 @@ pub fn dorwithel_judge(sheet_line: &[u8], text: &[u8]) -> u64
     pack(judge_text(sheet_line, text))
 }
 
-// The answer as one number.
+// The answer as one number, since C gets one.
 pub fn pack(answer: Result<usize, TextRefusal>) -> u64
     ensures { result ≡ packed answer }
 {
@@ -24,11 +25,12 @@ pub fn pack(answer: Result<usize, TextRefusal>) -> u64
     }
 }
 
+// A refusal as one number, with the rule and the line or place that it carries.
 fn pack_refusal(why: TextRefusal) -> u64
     ensures { result ≡ packed (Err why) }
 {
     let refusal = u64::from(why.number());
-    let rule = u64::from(why.rule().unwrap_or(0));
+    let rule = u64::from(why.rule().map_or(0, Rule::number));
     (refusal << 56) + (rule << 48) + low_bits(why.place().unwrap_or(0))
 }
 

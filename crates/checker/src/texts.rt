@@ -3,39 +3,26 @@ ghost use Rattle.checker.specs.Judging.{JudgedLines, JudgedLine};
 
 use crate::refusals::TextRefusal;
 use rulebook::book::Book;
-use sheet::{Chip, Sheet};
-use trace::cutting::{line_at, line_count};
+use sheet::Board;
+use trace::cutting::{LINE, line_count};
 use trace::line::read_line;
 
 // The count of lines, if all are well formed and their commands obey the rule book; else the first that is not or does not, and the smallest rule it breaks.
-pub fn judge_lines(sheet: &Sheet, chip: &Chip, text: &[u8]) -> Result<usize, TextRefusal>
-    ensures { JudgedLines sheet.now chip.now text.now result }
+pub fn judge_lines(board: &Board, text: &[u8]) -> Result<usize, TextRefusal>
+    ensures { JudgedLines board.now.sheet board.now.chip text.now result }
 {
     let mut book = Book::new();
-    let count = line_count(text);
-    for line in 0..count {
-        if let Err(why) = judge_line(sheet, chip, &mut book, line, line_at(text, line)) {
-            return Err(why);
-        }
+    for (line, bytes) in text.chunks(LINE).enumerate() {
+        judge_line(board, &mut book, line, bytes)?;
     }
-    Ok(count)
+    Ok(line_count(text))
 }
 
 // One line, after those that the book has taken in.
-fn judge_line(
-    sheet: &Sheet,
-    chip: &Chip,
-    book: &mut Book,
-    line: usize,
-    bytes: &[u8],
-) -> Result<(), TextRefusal>
-    ensures { JudgedLine sheet.now chip.now book.old line bytes.now result book.new }
+fn judge_line(board: &Board, book: &mut Book, line: usize, bytes: &[u8]) -> Result<(), TextRefusal>
+    ensures { JudgedLine board.now.sheet board.now.chip book.old line bytes.now result book.new }
 {
-    let Some(command) = read_line(bytes) else {
-        return Err(TextRefusal::Malformed(line));
-    };
-    match book.admit(sheet, chip, command) {
-        Ok(_) => Ok(()),
-        Err(rule) => Err(TextRefusal::Broken(line, rule)),
-    }
+    let command = read_line(bytes).ok_or(TextRefusal::Malformed(line))?;
+    book.admit(board, command)
+        .map_err(|rule| TextRefusal::Broken(line, rule))
 }

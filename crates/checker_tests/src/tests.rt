@@ -6,7 +6,7 @@ use checker::packing::dorwithel_judge;
 use checker::records::judge_records;
 use checker::refusals::{RecordRefusal, TextRefusal};
 use checker::texts::judge_lines;
-use rulebook::{Command, Kind};
+use rulebook::{Command, Kind, Rule};
 use std::process::Abort;
 use std::test::Fail;
 use trace::board::read_board;
@@ -21,28 +21,29 @@ struct Told {
     rule: Option<u8>,
 }
 
-fn told_of_text(answer: Result<usize, TextRefusal>) -> Told {
-    match answer {
-        Ok(count) => passes(count),
-        Err(why) => Told {
+// What is told of text that does not pass.
+impl From<TextRefusal> for Told {
+    fn from(why: TextRefusal) -> Told {
+        Told {
             number: why.number(),
             low: why.place(),
-            rule: why.rule(),
-        },
+            rule: why.rule().map(Rule::number),
+        }
     }
 }
 
-fn told_of_records(answer: Result<usize, RecordRefusal>) -> Told {
-    match answer {
-        Ok(count) => passes(count),
-        Err(why) => Told {
+// What is told of records that do not pass.
+impl From<RecordRefusal> for Told {
+    fn from(why: RecordRefusal) -> Told {
+        Told {
             number: why.number(),
             low: Some(why.line()),
-            rule: why.rule(),
-        },
+            rule: why.rule().map(Rule::number),
+        }
     }
 }
 
+// What is told of so many lines that pass.
 fn passes(count: usize) -> Told {
     Told {
         number: 0,
@@ -51,43 +52,34 @@ fn passes(count: usize) -> Told {
     }
 }
 
-// A record to be filled.
-const NONE: Command = Command {
-    cycle: 0,
-    kind: Kind::Idle,
-    bank: 0,
-    row: 0,
-    column: 0,
-    requester: 0,
-    number: 0,
-};
+// What is told of a line that breaks a rule.
+fn broken_at(line: usize, rule: u8) -> Told {
+    Told {
+        number: 18,
+        low: Some(line),
+        rule: Some(rule),
+    }
+}
+
+// What is told of an answer.
+fn told_of<E: Into<Told>>(answer: Result<usize, E>) -> Told {
+    answer.map_or_else(|why| why.into(), passes)
+}
 
 // The text by its sheet and chip, the records of it and the text written of them are all due this answer.
 fn agrees(rt: &impl Abort, sheet_line: &[u8], text: &[u8], due: Told) -> Result<(), Fail> {
-    let Ok(board) = read_board(sheet_line) else {
-        return Err(Fail::new("no sheet and chip"));
-    };
-    assert_eq!(rt;
-        told_of_text(judge_lines(&board.sheet, &board.chip, text)),
-        due
-    );
-    let mut lent = [NONE; 8];
-    let Ok(count) = read_lines(text, &mut lent) else {
-        return Err(Fail::new("not read"));
-    };
+    let board = read_board(sheet_line)?;
+    assert_eq!(rt; told_of(judge_lines(&board, text)), due);
+    let mut lent = [Command::default(); 8];
+    let count = read_lines(text, &mut lent)?;
     assert!(rt; count <= 8);
     let records = &lent[..count];
-    assert_eq!(rt;
-        told_of_records(judge_records(&board.sheet, &board.chip, records)),
-        due
-    );
+    assert_eq!(rt; told_of(judge_records(&board, records)), due);
     let mut written = [0; 216];
-    let Ok(lines) = write_lines(records, &mut written) else {
-        return Err(Fail::new("not written"));
-    };
+    let lines = write_lines(records, &mut written)?;
     assert!(rt; lines <= 8);
     assert_eq!(rt;
-        told_of_text(judge_text(sheet_line, &written[..27 * lines])),
+        told_of(judge_text(sheet_line, &written[..27 * lines])),
         due
     );
     Ok(())
@@ -96,15 +88,11 @@ fn agrees(rt: &impl Abort, sheet_line: &[u8], text: &[u8], due: Told) -> Result<
 #[test]
 fn each_rule_alone(rt: HostRuntime) {
     for case in &RULES {
-        let broken = Told {
-            number: 18,
-            low: Some(case.line),
-            rule: Some(case.rule),
-        };
-        assert_eq!(rt; told_of_text(judge_text(case.sheet_line, case.bad)), broken);
+        let broken = broken_at(case.line, case.rule);
+        assert_eq!(rt; told_of(judge_text(case.sheet_line, case.bad)), broken);
         assert_eq!(rt; dorwithel_judge(case.sheet_line, case.bad), case.packed);
         assert_eq!(rt;
-            told_of_text(judge_text(case.sheet_line, case.good)),
+            told_of(judge_text(case.sheet_line, case.good)),
             passes(case.count)
         );
         assert_eq!(rt;
@@ -122,7 +110,7 @@ fn the_first_reason_is_told(rt: HostRuntime) {
             low: case.low,
             rule: case.rule,
         };
-        assert_eq!(rt; told_of_text(judge_text(case.sheet_line, case.text)), due);
+        assert_eq!(rt; told_of(judge_text(case.sheet_line, case.text)), due);
         assert_eq!(rt; dorwithel_judge(case.sheet_line, case.text), case.packed);
     }
 }
@@ -130,11 +118,7 @@ fn the_first_reason_is_told(rt: HostRuntime) {
 #[test]
 fn records_are_judged_as_their_text(rt: HostRuntime) -> Result<(), Fail> {
     for case in &RULES {
-        let broken = Told {
-            number: 18,
-            low: Some(case.line),
-            rule: Some(case.rule),
-        };
+        let broken = broken_at(case.line, case.rule);
         agrees(&rt, case.sheet_line, case.bad, broken)?;
         agrees(&rt, case.sheet_line, case.good, passes(case.count))?;
     }
@@ -270,22 +254,14 @@ const TWO_ROWS: &[u8] =
 
 #[test]
 fn an_improper_record_breaks_no_rule(rt: HostRuntime) -> Result<(), Fail> {
-    let Ok(board) = read_board(SMALL) else {
-        return Err(Fail::new("no sheet and chip"));
-    };
+    let board = read_board(SMALL)?;
     for case in &REPLACED {
-        let mut records = [NONE; 5];
-        assert_eq!(rt; read_lines(TWO_ROWS, &mut records).is_ok(), true);
-        assert_eq!(rt;
-            told_of_records(judge_records(&board.sheet, &board.chip, &records)),
-            passes(5)
-        );
+        let mut records = [Command::default(); 5];
+        assert!(rt; read_lines(TWO_ROWS, &mut records).is_ok());
+        assert_eq!(rt; told_of(judge_records(&board, &records)), passes(5));
         records[1].cycle = case.cycle;
         records[2] = case.record;
-        assert_eq!(rt;
-            told_of_records(judge_records(&board.sheet, &board.chip, &records)),
-            case.due
-        );
+        assert_eq!(rt; told_of(judge_records(&board, &records)), case.due);
     }
     Ok(())
 }

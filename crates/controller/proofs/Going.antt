@@ -3,8 +3,6 @@ use Rattle.std.proofs.Common.{◌≡◌, ℕ, ◌<◌, Bool, true, false, cond, 
 use Rattle.std.proofs.lemmas.Bool.{eqb-true, eqb-false, and_parts, not-true, not-false, lt-ltb, cond-true}
 use Rattle.sheet.specs.declared.geometry.Chip.{Chip}
 use Rattle.rulebook.specs.declared.command.Command.{Command}
-use Rattle.rulebook.specs.declared.command.Kind.{Kind}
-use Rattle.rulebook.specs.declared.command.Kind.TheVariants.{Idle as Quiet, Activate, Precharge, Read, Write}
 use Rattle.rulebook.specs.declared.rule.Rule.{Rule}
 use Rattle.rulebook.specs.declared.book.Book.{Book}
 use Rattle.rulebook.specs.Book.{Obeys, Column, open_row}
@@ -14,7 +12,7 @@ use Rattle.rulebook.specs.Answer.{broken_rule, answer_by, book_by, answer_to, bo
 use Rattle.rulebook.proofs.Judged.{judged}
 use Rattle.policy.specs.declared.entry.Entry.{Entry}
 use Rattle.machine.specs.Machine.{Service as Served, Machine, precharge_for, column_for, next_from, next_command, stays_after, Goes, extended}
-use Rattle.machine.proofs.Stages.{Proper}
+use Rattle.machine.proofs.Stages.{Proper, column_ends}
 use Rattle.controller.specs.declared.stage.Service.{Service}
 use Rattle.controller.specs.declared.stage.Stage.{Stage}
 use Rattle.controller.specs.declared.stage.Stage.TheVariants.{Idle, Serving}
@@ -30,13 +28,6 @@ served v = record { entry = v.entry; start = v.start }
 -- what goes out, what stays in service, and that the record stands for the trace with it
 abbrev Gone : Machine → Served → Option Command → Option Served → Book → Type 0
 Gone m s o then b = Goes m (Some s) o then × Summarises (extended m.trace o) b
-
-column_ends : (k : Kind) (s : Served) → Column k → stays_after k s ≡ None
-column_ends Quiet s c = absurd c
-column_ends Activate s c = absurd c
-column_ends Precharge s c = absurd c
-column_ends Read s c = refl
-column_ends Write s c = refl
 
 -- a command that is not held back goes out exactly where the record admits it
 by_rule : (m : Machine) (s : Served) (b : Book) (c : Command) (then : Option Command → Option Served) (o : Option Rule) → c ≡ next_command m s.entry → (m.policy.holds ≡ true → Column c.kind → m.clock ≡ s.entry.deadline) →

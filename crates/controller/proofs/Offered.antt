@@ -21,15 +21,15 @@ use Rattle.controller.proofs.Chained.{reached_more, count_small}
 
 -- the session that an offer leaves: with another policy and other counts
 abbrev pub offered_to : {P : Type 0} (s : Session P) → P → Counts → (1 ≤ s.last) × (s.last ≤ 4000000000) → (1 ≤ s.clock) × (s.clock ≤ s.last + 1) → Session P
-offered_to s p n a b = record { sheet = s.sheet; chip = s.chip; policy = p; last = s.last; clock = s.clock; engine = s.engine; counts = n; last_in = a; clock_in = b }
+offered_to s p n a b = record { board = s.board; policy = p; last = s.last; clock = s.clock; engine = s.engine; counts = n; last_in = a; clock_in = b }
 
 -- where the request asks for something and is early enough, only the places stand against it
 passed_on : (stranger bad late : Bool) (asked : Option Kind) (rest : Option ℕ) (kind : Kind) → cond stranger (Err Requester) (in_time (cond bad None asked) late) ≡ Ok kind →
     (cond stranger (Some 10) (cond bad (Some 11) (cond late (Some 12) rest)) ≡ rest) × (asked ≡ Some kind)
-passed_on true bad late asked rest kind e = absurd (let z : ◌≡◌ {A = ℕ} 0 1 = cc in omega arith)
-passed_on false true late asked rest kind e = absurd (let z : ◌≡◌ {A = ℕ} 0 1 = cc in omega arith)
-passed_on false false late None rest kind e = absurd (let z : ◌≡◌ {A = ℕ} 0 1 = cc in omega arith)
-passed_on false false true (Some d) rest kind e = absurd (let z : ◌≡◌ {A = ℕ} 0 1 = cc in omega arith)
+passed_on true bad late asked rest kind e = cc
+passed_on false true late asked rest kind e = cc
+passed_on false false late None rest kind e = cc
+passed_on false false true (Some d) rest kind e = cc
 passed_on false false false (Some d) rest kind e = (refl, cc)
 
 -- the last reason of an offer
@@ -79,7 +79,7 @@ pub kept : {P : Type 0} (meaning : P → Meaning) (sound : P → ℕ → ℕ →
     (a : (1 ≤ s.last) × (s.last ≤ 4000000000)) (b : (1 ≤ s.clock) × (s.clock ≤ s.last + 1)) →
     TakesIn meaning sound s.clock (service_of s.engine.stage) q kind s.policy s.counts r p n → UnlessRefused r s (offered_to s p n a b)
 kept meaning sound s q kind (Ok w) p n a b t = tt
-kept meaning sound s q kind (Err w) p n a b t = λ i. record { sheet = s.sheet; chip = s.chip; policy = t.2 i; last = s.last; clock = s.clock; engine = s.engine; counts = t.3 i; last_in = (le_prop a.0 s.last_in.0 i, le_prop a.1 s.last_in.1 i); clock_in = (le_prop b.0 s.clock_in.0 i, le_prop b.1 s.clock_in.1 i) }
+kept meaning sound s q kind (Err w) p n a b t = λ i. record { board = s.board; policy = t.2 i; last = s.last; clock = s.clock; engine = s.engine; counts = t.3 i; last_in = (le_prop a.0 s.last_in.0 i, le_prop a.1 s.last_in.1 i); clock_in = (le_prop b.0 s.clock_in.0 i, le_prop b.1 s.clock_in.1 i) }
 
 -- a sound session takes a step of the machine and is sound again
 pub steps : {P : Type 0} (meaning : P → Meaning) (sound : P → ℕ → ℕ → Type 0) → ((p : P) → WellShaped (meaning p)) → (s : Session P) (q : Request) (kind : Kind) (r : Result Receipt OfferRefusal) (p : P) (n : Counts)

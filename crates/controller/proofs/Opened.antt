@@ -47,25 +47,25 @@ unused s k last p e =
     eqb-true p.clock 0 (not-false (eqb p.clock 0) b.0)
 
 -- a session as it is made stands for the machine as it opens
-opens_as : {P : Type 0} (meaning : P → Meaning) (s : Session P) → s.clock ≡ 1 → s.engine.stage ≡ Idle → ((r : ℕ) → count_of s.counts.each r ≡ 0) → machine meaning s [] ≡ opened s.sheet s.chip s.last (meaning s.policy)
-opens_as meaning s clock stage none = λ i. record { sheet = s.sheet; chip = s.chip; last = s.last; policy = meaning s.policy; clock = clock i; service = service_of (stage i); accepted = λ r. none r i; trace = [] }
+opens_as : {P : Type 0} (meaning : P → Meaning) (s : Session P) → s.clock ≡ 1 → s.engine.stage ≡ Idle → ((r : ℕ) → count_of s.counts.each r ≡ 0) → machine meaning s [] ≡ opened s.board.sheet s.board.chip s.last (meaning s.policy)
+opens_as meaning s clock stage none = λ i. record { sheet = s.board.sheet; chip = s.board.chip; last = s.last; policy = meaning s.policy; clock = clock i; service = service_of (stage i); accepted = λ r. none r i; trace = [] }
 
 pub opens : {P : Type 0} (meaning : P → Meaning) (sound : P → ℕ → ℕ → Type 0) → ((p : P) → WellShaped (meaning p)) → ((p : P) → (meaning p).clock ≡ 0 → ((meaning p).waiting ≡ []) × sound p 1 0) →
     (s : Session P) → s.clock ≡ 1 → s.engine.stage ≡ Idle → Summarises [] s.engine.book → ((r : ℕ) → count_of s.counts.each r ≡ 0) →
-    opening_refusal s.sheet s.chip s.last (meaning s.policy) ≡ None → Opens meaning sound s.sheet s.chip s.last s.policy s
+    opening_refusal s.board.sheet s.board.chip s.last (meaning s.policy) ≡ None → Opens meaning sound s.board.sheet s.board.chip s.last s.policy s
 opens meaning sound shaped fresh s clock stage summary none e =
-    let new = fresh s.policy (unused s.sheet s.chip s.last (meaning s.policy) e) in
-    let fits : Fits s.sheet s.chip s.last (meaning s.policy) = fitting s.sheet s.chip s.last (meaning s.policy) (shaped s.policy) new.0 e in
-    let alike : machine meaning s [] ≡ opened s.sheet s.chip s.last (meaning s.policy) = opens_as meaning s clock stage none in
+    let new = fresh s.policy (unused s.board.sheet s.board.chip s.last (meaning s.policy) e) in
+    let fits : Fits s.board.sheet s.board.chip s.last (meaning s.policy) = fitting s.board.sheet s.board.chip s.last (meaning s.policy) (shaped s.policy) new.0 e in
+    let alike : machine meaning s [] ≡ opened s.board.sheet s.board.chip s.last (meaning s.policy) = opens_as meaning s clock stage none in
     record {
       no_reason = e;
       machine_is = alike;
       sound_is = record {
         summarised = summary;
         policy_sound = subst (λ (m : Machine). sound s.policy m.clock (base m)) (sym alike) new.1;
-        reached = record { sheet = s.sheet; chip = s.chip; last = s.last; policy = meaning s.policy; fits = fits; log = []; chain = sym alike };
+        reached = record { sheet = s.board.sheet; chip = s.board.chip; last = s.last; policy = meaning s.policy; fits = fits; log = []; chain = sym alike };
       };
-      promises = subst KeepsItsPromises (sym alike) (keeps_its_promises s.sheet s.chip s.last (meaning s.policy) fits);
-      deadlines_near = subst DeadlinesNear (sym alike) (deadlines_near s.sheet s.chip s.last (meaning s.policy) fits);
-      answers_determined = subst AnswersDetermined (sym alike) (answers_determined s.sheet s.chip s.last (meaning s.policy) fits);
+      promises = subst KeepsItsPromises (sym alike) (keeps_its_promises s.board.sheet s.board.chip s.last (meaning s.policy) fits);
+      deadlines_near = subst DeadlinesNear (sym alike) (deadlines_near s.board.sheet s.board.chip s.last (meaning s.policy) fits);
+      answers_determined = subst AnswersDetermined (sym alike) (answers_determined s.board.sheet s.board.chip s.last (meaning s.policy) fits);
     }

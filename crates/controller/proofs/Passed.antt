@@ -5,7 +5,7 @@ use Rattle.rulebook.specs.declared.command.Command.{Command}
 use Rattle.rulebook.specs.Summary.{Summarises}
 use Rattle.policy.specs.declared.entry.Entry.{Entry}
 use Rattle.policy.specs.Meaning.{Meaning, WellShaped, Turned, base_after}
-use Rattle.machine.specs.Machine.{Service as Served, Machine, base_at, started, InService, Goes, extended, Ticked, tick, ticked}
+use Rattle.machine.specs.Machine.{Service as Served, Machine, base_at, InService, Goes, extended, Ticked, tick, ticked}
 use Rattle.machine.specs.Spans.{WithinSpan}
 use Rattle.machine.proofs.Stages.{Proper}
 use Rattle.machine.proofs.Running.{unserved_of}
@@ -29,10 +29,6 @@ record Begun {P : Type 0} (meaning : P → Meaning) (sound : P → ℕ → ℕ �
   pub fit : Fit m.chip g
   pub goes_on : sound p' (m.clock + 1) (base_at (m.clock + 1) (meaning p').span (service_of g))
   pub ends : sound p' (m.clock + 1) (base_at (m.clock + 1) (meaning p').span None)
-
-started_alike : (clock : ℕ) (o : Option Entry) → service_of (stage_from clock o) ≡ started clock o
-started_alike clock None = refl
-started_alike clock (Some e) = refl
 
 -- what follows a cycle is the stage that it had, or none
 left_over : (Q : Stage → Type 0) (g : Stage) (row : RowState) (o : Option Command) → Q g → Q Idle → Q (stage_in g row o)
@@ -82,8 +78,8 @@ module _ {P : Type 0} (meaning : P → Meaning) (sound : P → ℕ → ℕ → T
 
   -- where the cycle's answer and what it leaves are told by the engine, that is a tick of the machine, and the session is sound again
   told : (s t : Session P) (g : Stage) (o : Option Command) (e : Engine) (h : List Command) → Sound meaning sound s h → s.clock ≤ s.last → Begun meaning sound (machine meaning s h) t.policy g →
-      o ≡ sent s.sheet s.chip (meaning s.policy).holds s.clock (record { stage = g; book = s.engine.book }) → e ≡ engine_after s.sheet s.chip (meaning s.policy).holds s.clock (record { stage = g; book = s.engine.book }) →
-      machine meaning t (extended h o) ≡ record { sheet = s.sheet; chip = s.chip; last = s.last; policy = meaning t.policy; clock = s.clock + 1; service = service_of e.stage; accepted = count_of s.counts.each; trace = extended h o } →
+      o ≡ sent s.board.sheet s.board.chip (meaning s.policy).holds s.clock (record { stage = g; book = s.engine.book }) → e ≡ engine_after s.board.sheet s.board.chip (meaning s.policy).holds s.clock (record { stage = g; book = s.engine.book }) →
+      machine meaning t (extended h o) ≡ record { sheet = s.board.sheet; chip = s.board.chip; last = s.last; policy = meaning t.policy; clock = s.clock + 1; service = service_of e.stage; accepted = count_of s.counts.each; trace = extended h o } →
       t.engine ≡ e → Ticked (machine meaning s h) o (machine meaning t (extended h o)) × Sound meaning sound t (extended h o)
   told s t g o e h z running b o_is e_is left same =
       let m : Machine = machine meaning s h in
@@ -91,13 +87,13 @@ module _ {P : Type 0} (meaning : P → Meaning) (sound : P → ℕ → ℕ → T
       let w = gone m g s.engine.book b.fit z.summarised r.obeys in
       let goes : Goes m (service_of g) o (service_of e.stage) =
       subst (λ (x : Engine). Goes m (service_of g) o (service_of x.stage)) (sym e_is)
-      (subst (λ (y : Option Command). Goes m (service_of g) y (service_of (stage_in g (state_of g s.engine.book) (sent s.sheet s.chip (meaning s.policy).holds s.clock (record { stage = g; book = s.engine.book }))))) (sym o_is) w.0) in
+      (subst (λ (y : Option Command). Goes m (service_of g) y (service_of (stage_in g (state_of g s.engine.book) (sent s.board.sheet s.board.chip (meaning s.policy).holds s.clock (record { stage = g; book = s.engine.book }))))) (sym o_is) w.0) in
       let summary : Summarises (extended h o) e.book =
       subst (λ (x : Engine). Summarises (extended h o) x.book) (sym e_is)
-      (subst (λ (y : Option Command). Summarises (extended h y) (book_in g (state_of g s.engine.book) s.sheet s.chip (meaning s.policy).holds s.clock s.engine.book)) (sym o_is) w.1) in
+      (subst (λ (y : Option Command). Summarises (extended h y) (book_in g (state_of g s.engine.book) s.board.sheet s.board.chip (meaning s.policy).holds s.clock s.engine.book)) (sym o_is) w.1) in
       let next : sound t.policy (s.clock + 1) (base_at (s.clock + 1) (meaning t.policy).span (service_of e.stage)) =
       subst (λ (x : Engine). sound t.policy (s.clock + 1) (base_at (s.clock + 1) (meaning t.policy).span (service_of x.stage))) (sym e_is)
-      (left_over (λ (y : Stage). sound t.policy (s.clock + 1) (base_at (s.clock + 1) (meaning t.policy).span (service_of y))) g (state_of g s.engine.book) (sent s.sheet s.chip (meaning s.policy).holds s.clock (record { stage = g; book = s.engine.book })) b.goes_on b.ends) in
+      (left_over (λ (y : Stage). sound t.policy (s.clock + 1) (base_at (s.clock + 1) (meaning t.policy).span (service_of y))) g (state_of g s.engine.book) (sent s.board.sheet s.board.chip (meaning s.policy).holds s.clock (record { stage = g; book = s.engine.book })) b.goes_on b.ends) in
       let step : Ticked m o (machine meaning t (extended h o)) = subst (λ (n : Machine). Ticked m o n) (sym left) (record {
         running = running;
         now_served = service_of g;
@@ -122,7 +118,7 @@ module _ {P : Type 0} (meaning : P → Meaning) (sound : P → ℕ → ℕ → T
       let b = begun m s.policy t.policy s.engine.stage x.stage refl refl x.begins z.policy_sound (spans m z.reached) k.runs.0.proper in
       let g : Engine = record { stage = x.stage; book = s.engine.book } in
       told s t x.stage o t.engine h z running b
-      (x.answer_is ∙ ap (λ (y : Bool). sent s.sheet s.chip y s.clock g) b.holds_same)
-      (x.engine_is ∙ ap (λ (y : Bool). engine_after s.sheet s.chip y s.clock g) b.holds_same)
-      (λ i. record { sheet = x.sheet_same i; chip = x.chip_same i; last = x.last_same i; policy = meaning t.policy; clock = x.clock_rises i; service = service_of t.engine.stage; accepted = count_of (x.counts_same i).each; trace = extended h o })
+      (x.answer_is ∙ ap (λ (y : Bool). sent s.board.sheet s.board.chip y s.clock g) b.holds_same)
+      (x.engine_is ∙ ap (λ (y : Bool). engine_after s.board.sheet s.board.chip y s.clock g) b.holds_same)
+      (λ i. record { sheet = (x.board_same i).sheet; chip = (x.board_same i).chip; last = x.last_same i; policy = meaning t.policy; clock = x.clock_rises i; service = service_of t.engine.stage; accepted = count_of (x.counts_same i).each; trace = extended h o })
       refl

@@ -27,7 +27,7 @@ service_of (Serving v) = Some (record { entry = v.entry; start = v.start })
 
 -- The machine that a session stands for, where these are the commands that it has sent.
 abbrev pub machine : {P : Type 0} → (P → Meaning) → Session P → List Command → Machine
-machine meaning s h = record { sheet = s.sheet; chip = s.chip; last = s.last; policy = meaning s.policy; clock = s.clock; service = service_of s.engine.stage; accepted = count_of s.counts.each; trace = h }
+machine meaning s h = record { sheet = s.board.sheet; chip = s.board.chip; last = s.last; policy = meaning s.policy; clock = s.clock; service = service_of s.engine.stage; accepted = count_of s.counts.each; trace = h }
 
 -- A chain of calls leads from an opened machine to this one.
 pub record Reached (m : Machine) : Type 0 where

@@ -23,10 +23,9 @@ Begins meaning sound clock (Serving v) p g p' = (g ≡ Serving v) × (p' ≡ p)
 pub record Passes {P : Type 0} (meaning : P → Meaning) (sound : P → ℕ → ℕ → Type 0) (s : Session P) (answer : Option Command) (t : Session P) : Type 0 where
   pub stage : Stage
   pub begins : Begins meaning sound s.clock s.engine.stage s.policy stage t.policy
-  pub answer_is : answer ≡ sent s.sheet s.chip (meaning t.policy).holds s.clock (record { stage = stage; book = s.engine.book })
-  pub engine_is : t.engine ≡ engine_after s.sheet s.chip (meaning t.policy).holds s.clock (record { stage = stage; book = s.engine.book })
+  pub answer_is : answer ≡ sent s.board.sheet s.board.chip (meaning t.policy).holds s.clock (record { stage = stage; book = s.engine.book })
+  pub engine_is : t.engine ≡ engine_after s.board.sheet s.board.chip (meaning t.policy).holds s.clock (record { stage = stage; book = s.engine.book })
   pub clock_rises : t.clock ≡ s.clock + 1
-  pub sheet_same : t.sheet ≡ s.sheet
-  pub chip_same : t.chip ≡ s.chip
+  pub board_same : t.board ≡ s.board
   pub last_same : t.last ≡ s.last
   pub counts_same : t.counts ≡ s.counts

@@ -1,8 +1,8 @@
 // How many offers of each requester were accepted.
 ghost use Rattle.std.specs.Prelude.{◌≡◌, ℕ, length};
-ghost use Rattle.controller.specs.Counts.{count_of, one_more, counted};
+ghost use Rattle.controller.specs.Counts.{count_of, counted};
 
-// A count for each of the sixteen requesters that there can be.
+// A count for each of the sixteen requesters that there can be, in place: by a rule of the project (docs/DECISIONS.md) nothing is allocated.
 #[derive(Drop)]
 pub(crate) struct Counts {
     each: [u32; 16],
@@ -21,26 +21,16 @@ impl Counts {
     pub(crate) fn of(&self, requester: u8) -> u32
         ensures { result ≡ count_of self.now.each requester }
     {
-        if requester < 16 {
-            self.each[usize::from(requester)]
-        } else {
-            0
-        }
+        self.each.get(usize::from(requester)).copied().unwrap_or(0)
     }
 
     // One more offer of the requester.
     pub(crate) fn note(&mut self, requester: u8)
         ensures { self.new.each ≡ counted self.old.each requester }
     {
-        if requester < 16 {
-            self.each[usize::from(requester)] = next(self.each[usize::from(requester)]);
+        let place = usize::from(requester);
+        if place < self.each.len() {
+            self.each[place] = self.each[place].saturating_add(1);
         }
     }
-}
-
-// One more, as far as 32 bits go.
-fn next(count: u32) -> u32
-    ensures { result ≡ one_more count }
-{
-    if count < u32::MAX { count + 1 } else { count }
 }

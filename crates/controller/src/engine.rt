@@ -9,7 +9,7 @@ ghost use Rattle.controller.specs.Engine.{state_of, if_lawful, sent as sent_by, 
 use crate::stage::{RowState, Stage};
 use policy::Entry;
 use rulebook::{Book, Command, Kind};
-use sheet::{Chip, Sheet};
+use sheet::Board;
 
 // The stage of the service, and of the trace what the rules still need.
 #[derive(Drop)]
@@ -30,16 +30,10 @@ impl Engine {
         }
     }
 
-    // The command of this cycle, if one goes out: what follows from the stage and the state of its bank, once it is lawful, and a held column command at its deadline only. A column command ends the service.
-    pub(crate) fn step(
-        &mut self,
-        sheet: &Sheet,
-        chip: &Chip,
-        holds: bool,
-        clock: u32,
-    ) -> Option<Command>
-        ensures command { result ≡ sent_by sheet.now chip.now holds clock self.old }
-        ensures left { self.new ≡ engine_after sheet.now chip.now holds clock self.old }
+    // The command of this cycle, if one goes out: what follows from the stage and the state of its bank, once it is lawful, and a held column command at its deadline only. A column command ends the service. Whether it is held is handed in, since the engine knows no policy.
+    pub(crate) fn step(&mut self, board: &Board, holds: bool, clock: u32) -> Option<Command>
+        ensures command { result ≡ sent_by board.now.sheet board.now.chip holds clock self.old }
+        ensures left { self.new ≡ engine_after board.now.sheet board.now.chip holds clock self.old }
     {
         match (self.stage, self.row_state()) {
             (Stage::Idle, _) => None,
@@ -47,20 +41,20 @@ impl Engine {
                 if holds && u64::from(clock) != service.entry.deadline {
                     return None;
                 }
-                let command = self.send(sheet, chip, column_for(clock, service.entry))?;
+                let command = self.send(board, column_for(clock, service.entry))?;
                 self.stage = Stage::Idle;
                 Some(command)
             }
             (Stage::Serving(service), RowState::Other) => {
-                self.send(sheet, chip, precharge_for(clock, service.entry))
+                self.send(board, precharge_for(clock, service.entry))
             }
             (Stage::Serving(service), RowState::Closed) => {
-                self.send(sheet, chip, activate_for(clock, service.entry))
+                self.send(board, activate_for(clock, service.entry))
             }
         }
     }
 
-    // How the bank of what is in service stands to it; closed where nothing is.
+    // How the bank of what is in service stands to it; closed where nothing is, so that one match tells stage and bank together.
     fn row_state(&self) -> RowState
         ensures { result ≡ state_of self.now.stage self.now.book }
     {
@@ -75,15 +69,13 @@ impl Engine {
     }
 
     // Sends the command where it breaks no rule.
-    fn send(&mut self, sheet: &Sheet, chip: &Chip, command: Command) -> Option<Command>
-        ensures command { result ≡ if_lawful (answer_to sheet.now chip.now self.old.book command) command }
-        ensures book { self.new.book ≡ book_after sheet.now chip.now self.old.book command }
+    fn send(&mut self, board: &Board, command: Command) -> Option<Command>
+        ensures command { result ≡ if_lawful (answer_to board.now.sheet board.now.chip self.old.book command) command }
+        ensures book { self.new.book ≡ book_after board.now.sheet board.now.chip self.old.book command }
         ensures stage { self.new.stage ≡ self.old.stage }
     {
-        match self.book.admit(sheet, chip, command) {
-            Ok(_) => Some(command),
-            Err(_) => None,
-        }
+        self.book.admit(board, command).ok()?;
+        Some(command)
     }
 }
 

@@ -1,7 +1,7 @@
 // Whether a request is proper: a read or a write, inside the chip.
 ghost use Rattle.std.specs.Prelude.{◌≡◌};
 ghost use Rattle.machine.specs.Machine.{asked_kind};
-ghost use Rattle.controller.specs.Requests.{outside, proper_kind};
+ghost use Rattle.controller.specs.Requests.{proper_kind};
 
 use policy::Request;
 use rulebook::Kind;
@@ -11,28 +11,17 @@ use sheet::Chip;
 pub(crate) fn wanted_kind(chip: &Chip, request: Request) -> Option<Kind>
     ensures { result ≡ proper_kind chip.now request }
 {
-    if is_outside(chip, request) {
+    if !chip.holds(request.bank, request.row, request.column) {
         return None;
     }
     kind_asked(request.kind)
 }
 
-// What the number asks for: 3 is a read and 4 is a write.
+// What the number asks for: a read or a write, and nothing by any other number.
 fn kind_asked(value: u8) -> Option<Kind>
     ensures { result ≡ asked_kind value }
 {
-    match value {
-        3 => Some(Kind::Read),
-        4 => Some(Kind::Write),
-        _ => None,
-    }
-}
-
-// Whether the address lies outside the chip.
-fn is_outside(chip: &Chip, request: Request) -> bool
-    ensures { result ≡ outside chip.now request }
-{
-    u32::from(request.bank) >= chip.banks
-        || u32::from(request.row) >= chip.rows
-        || u32::from(request.column) >= chip.columns
+    Kind::try_from(value)
+        .ok()
+        .filter(|kind| matches!(kind, Kind::Read | Kind::Write))
 }

@@ -3,17 +3,16 @@ ghost use Rattle.std.specs.Prelude.{◌+◌, ◌≤◌};
 
 use crate::counts::Counts;
 use crate::engine::Engine;
-use sheet::{Chip, Sheet};
+use sheet::Board;
 
 mod offering; // taking an offer
 mod opening; // opening a session
 mod ticking; // passing one cycle
 
-// One chip with its sheet, a policy, the last cycle that can be ticked, the next cycle to be ticked, what is in service, and the counts of accepted offers. Of its trace it keeps, in the engine, only what the rules still need. Offers and ticks alone change it.
+// A board, a policy, the last cycle that can be ticked, the next cycle to be ticked, what is in service, and the counts of accepted offers. Of its trace it keeps, in the engine, only what the rules still need. Offers and ticks alone change it.
 #[derive(Drop)]
 pub struct Session<P> {
-    sheet: Sheet,
-    chip: Chip,
+    board: Board,
     policy: P,
     last: u32,
     clock: u32,

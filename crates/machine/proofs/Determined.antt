@@ -37,7 +37,7 @@ joins_once turn_order u p c b q number kind d d' n n' j j' =
 -- a turn that gives nothing and one that gives an entry do not both stand
 no_both : (o : Order) → o ≢ free → (p : Meaning) (c : ℕ) (e : Entry) (es : List Entry) → (o ≡ turn_order → p.holds ≡ true) → Timely p.span c p.waiting → IdleBy o p → p.waiting ≡ e ∷ es → (p.holds ≡ true → e.deadline + 1 ≡ c + p.span) → ⊥
 no_both free u p c e es h t i w d = u refl
-no_both first_come u p c e es h t i w d = let x : ◌≡◌ {A = List Entry} [] (e ∷ es) = sym i ∙ w in let z : ◌≡◌ {A = ℕ} 0 1 = cc in omega arith
+no_both first_come u p c e es h t i w d = cc (i, w)
 no_both turn_order u p c e es h t i w d = omega (arith, d (h refl), (subst (λ (xs : List Entry). Timely p.span c xs) w t).0)
 
 -- a turn gives one thing and leaves one policy
@@ -93,8 +93,8 @@ accepts_once m q i i' d d' n n' f a a' =
 -- a call has one answer and leaves one machine
 steps_once : (m : Machine) (e : Event) (a a' : Answer) (n n' : Machine) → Named m.policy → Step m e a n → Step m e a' n' → (a ≡ a') × (n ≡ n')
 steps_once m (offer q) (accepted i d) (accepted i' d') n n' f s s' = let o = accepts_once m q i i' d d' n n' f s s' in (λ j. accepted (o.0 j) (o.1 j), o.2)
-steps_once m (offer q) (accepted i d) (refused why) n n' f s s' = absurd (let z : ◌≡◌ {A = Option ℕ} None (Some why) = sym s.no_reason ∙ s'.0 in let y : ◌≡◌ {A = ℕ} 0 1 = cc in omega arith)
-steps_once m (offer q) (refused why) (accepted i d) n n' f s s' = absurd (let z : ◌≡◌ {A = Option ℕ} None (Some why) = sym s'.no_reason ∙ s.0 in let y : ◌≡◌ {A = ℕ} 0 1 = cc in omega arith)
+steps_once m (offer q) (accepted i d) (refused why) n n' f s s' = cc (s.no_reason, s'.0)
+steps_once m (offer q) (refused why) (accepted i d) n n' f s s' = cc (s'.no_reason, s.0)
 steps_once m (offer q) (refused why) (refused why') n n' f s s' = let z : Some why ≡ Some why' = sym s.0 ∙ s'.0 in (cc, s.1 ∙ sym s'.1)
 steps_once m (offer q) (ticked c) a' n n' f s s' = absurd s
 steps_once m (offer q) (accepted i d) (ticked c) n n' f s s' = absurd s'
@@ -126,8 +126,8 @@ step_named m tick (accepted i d) n s f = absurd s
 
 chains_once : (m : Machine) (log log' : List Exchange) (n n' : Machine) → Named m.policy → Chain m log n → Chain m log' n' → events log ≡ events log' → (log ≡ log') × (n ≡ n')
 chains_once m [] [] n n' f c c' e = (refl, sym c ∙ c')
-chains_once m [] (x ∷ log') n n' f c c' e = absurd (let z : ◌≡◌ {A = ℕ} 0 1 = cc in omega arith)
-chains_once m (x ∷ log) [] n n' f c c' e = absurd (let z : ◌≡◌ {A = ℕ} 0 1 = cc in omega arith)
+chains_once m [] (x ∷ log') n n' f c c' e = cc
+chains_once m (x ∷ log) [] n n' f c c' e = cc
 chains_once m (x ∷ log) (x' ∷ log') n n' f c c' e =
     let called : x.event ≡ x'.event = cc in
     let rest : events log ≡ events log' = cc in

@@ -8,7 +8,7 @@ use Rattle.rulebook.proofs.Lawful.{activate_in_time, column_in_time}
 use Rattle.policy.specs.declared.entry.Entry.{Entry}
 use Rattle.policy.specs.Meaning.{WellShaped, SameShape, turn_order}
 use Rattle.policy.specs.Orders.{ordered}
-use Rattle.policy.specs.Rooms.{places_inside, places_outside}
+use Rattle.policy.specs.Ordered.{places_inside, places_outside}
 use Rattle.machine.specs.Machine.{Service, Machine, opened, Accepted, Ticked, offer, refused, Chain}
 use Rattle.machine.specs.Opens.{Fits}
 use Rattle.machine.specs.Example.{small_sheet, small_chip, small_policy, small_request, small_activate, small_read, small_log, ExampleStands}

@@ -11,7 +11,7 @@ use Rattle.rulebook.specs.Book.{Column}
 use Rattle.policy.specs.declared.entry.Request.{Request}
 use Rattle.policy.specs.declared.entry.Entry.{Entry}
 use Rattle.policy.specs.Meaning.{own, due_before, first_own_slot, slot_end}
-use Rattle.policy.proofs.Joining.{Clear, slot_clear, joined_own, joined_others}
+use Rattle.policy.specs.Joining.{Clear, slot_clear, joined_own, joined_others}
 use Rattle.machine.specs.Machine.{Service, Machine, asked_kind, entry_for, Accepted, Goes, stays_after, extended, Event, offer, tick, Answer, accepted, ticked, refused, Step, offer_refusal}
 use Rattle.machine.specs.Promises.{is_column, columns_of}
 use Rattle.machine.proofs.Steps.{is_joined, joined_to, begun, Halves, halves}

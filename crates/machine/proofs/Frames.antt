@@ -68,9 +68,9 @@ rising_at [] c mid d back r = all_at (λ x. c.cycle < x.cycle) mid d back r.0
 rising_at (x ∷ front) c mid d back r = rising_at front c mid d back r.1
 
 column_from : (k : Kind) → is_column k ≡ true → Column k
-column_from Idle e = let z : ◌≡◌ {A = ℕ} 0 1 = ap (λ (b : Bool). cond b 1 0) e in omega arith
-column_from Activate e = let z : ◌≡◌ {A = ℕ} 0 1 = ap (λ (b : Bool). cond b 1 0) e in omega arith
-column_from Precharge e = let z : ◌≡◌ {A = ℕ} 0 1 = ap (λ (b : Bool). cond b 1 0) e in omega arith
+column_from Idle e = cc
+column_from Activate e = cc
+column_from Precharge e = cc
 column_from Read e = tt
 column_from Write e = tt
 

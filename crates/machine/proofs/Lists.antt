@@ -1,26 +1,9 @@
--- Lists: cut before an element, counted by a test, and what holds of each element.
-use Rattle.std.proofs.Common.{◌≡◌, ℕ, ◌+◌, ◌≤◌, Bool, true, false, cond, ◌⊎◌, List, [], ◌∷◌, ◌++◌, length, filter, sym, refl, ap, ◌∙◌, inl, inr, arith}
+-- Lists: what holds of each element, and elements counted by a test.
+use Rattle.std.proofs.Common.{◌≡◌, ◌+◌, ◌≤◌, Bool, true, false, cond, List, [], ◌∷◌, ◌++◌, length, filter, sym, refl, ap, ◌∙◌, arith}
 use Rattle.std.specs.List.{AllByRecursion}
 use Rattle.std.proofs.lemmas.List.{length-append}
 use Rattle.std.proofs.lemmas.List.Elements.{filter-append}
-
--- the empty list holds nothing
-pub no_element : {X : Type 0} (xs : List X) (y : X) (ys : List X) → [] ≡ xs ++ (y ∷ ys) → ⊥
-no_element [] y ys e = let z : ◌≡◌ {A = ℕ} 0 1 = cc in omega arith
-no_element (x ∷ xs) y ys e = let z : ◌≡◌ {A = ℕ} 0 1 = cc in omega arith
-
--- a list with one more at its end, cut before an element: at that last one, or inside the list
-pub last_cut : {X : Type 0} (xs : List X) (x : X) (before : List X) (y : X) (rest : List X) → xs ++ (x ∷ []) ≡ before ++ (y ∷ rest) → (x ≡ y) ⊎ ((more : List X) × (xs ≡ before ++ (y ∷ more)))
-last_cut [] x [] y rest e = inl (cc)
-last_cut [] x (b ∷ before) y rest e = absurd (no_element before y rest (cc))
-last_cut (a ∷ xs) x [] y rest e = inr (xs, cc)
-last_cut (a ∷ xs) x (b ∷ before) y rest e =
-    let h : a ≡ b = cc in
-    let t : xs ++ (x ∷ []) ≡ before ++ (y ∷ rest) = cc in
-    elim (last_cut xs x before y rest t) [
-      | inl p ↦ inl p
-      | inr p ↦ let q = p.1 in inr (p.0, cc)
-    ]
+use Rattle.std.proofs.lemmas.List.Sums.{length-filter, count_by-le-length}
 
 -- both facts of each element, and the fact of the element before which a list is cut
 pub all_both : {X : Type 0} (P Q R : X → Type 0) → ((x : X) → P x → Q x → R x) → (xs : List X) → AllByRecursion P xs → AllByRecursion Q xs → AllByRecursion R xs
@@ -52,8 +35,7 @@ kept_last p xs x =
     omega (arith, length-append (filter p xs) (filter p (x ∷ [])), kept_one (p x) x [])
 
 pub fewer_kept : {X : Type 0} (p : X → Bool) (xs : List X) → length (filter p xs) ≤ length xs
-fewer_kept p [] = omega arith
-fewer_kept p (x ∷ xs) = elim (p x) as (λ b. length (cond b (x ∷ filter p xs) (filter p xs)) ≤ length (x ∷ xs)) [ true ↦ omega (arith, fewer_kept p xs) | false ↦ omega (arith, fewer_kept p xs) ]
+fewer_kept p xs = omega (arith, length-filter p xs, count_by-le-length p xs)
 
 -- where nothing passes, and where all does
 pub kept_none : {X : Type 0} (p : X → Bool) (xs : List X) → AllByRecursion (λ x. p x ≡ false) xs → filter p xs ≡ []

@@ -1,10 +1,10 @@
 -- Logs that grow at their end, chains cut in two, and induction along a chain.
 use Rattle.std.proofs.Common.{◌≡◌, ℕ, ◌+◌, ◌⊎◌, List, [], ◌∷◌, ◌++◌, Some, None, Option, sym, refl, ap, ◌∙◌, subst, inl, inr, append_assoc, append-nil, arith}
 use Rattle.rulebook.specs.declared.command.Command.{Command}
+use Rattle.rulebook.proofs.Lists.{last_cut}
 use Rattle.policy.specs.declared.entry.Request.{Request}
 use Rattle.machine.specs.Machine.{Machine, offer, accepted, Step, Exchange, Chain, extended}
 use Rattle.machine.specs.Promises.{issued, put_before, commands, passes, ticks, AcceptedIn}
-use Rattle.machine.proofs.Lists.{last_cut}
 
 -- what holds of the empty log, and at each step of the log with one exchange more, holds of every chain
 chain_from : (P : List Exchange → Machine → Type 0) → ((log : List Exchange) (m : Machine) (x : Exchange) (n : Machine) → P log m → Step m x.event x.answer n → P (log ++ (x ∷ [])) n) →
@@ -58,6 +58,6 @@ accepted_last log q i d = (log, [], refl)
 
 pub accepted_cut : (log : List Exchange) (x : Exchange) (q : Request) (i d : ℕ) → AcceptedIn (log ++ (x ∷ [])) q i d → (x ≡ record { event = offer q; answer = accepted i d }) ⊎ AcceptedIn log q i d
 accepted_cut log x q i d a = elim (last_cut log x a.0 (record { event = offer q; answer = accepted i d }) a.1 a.2) [
-  | inl e ↦ inl e
+  | inl e ↦ inl e.1
   | inr p ↦ inr (a.0, p.0, p.1)
 ]

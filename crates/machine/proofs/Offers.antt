@@ -11,7 +11,7 @@ use Rattle.machine.proofs.Stages.{Proper}
 
 -- where no reason is given, the first one does not hold and none of the others
 pub passed_by : (b : Bool) (why : ℕ) (o : Option ℕ) → cond b (Some why) o ≡ None → (b ≡ false) × (o ≡ None)
-passed_by true why o e = absurd (let z : ◌≡◌ {A = ℕ} 0 1 = cc in omega arith)
+passed_by true why o e = cc
 passed_by false why o e = (refl, e)
 
 -- what an offer meets against which no reason stands
@@ -43,7 +43,7 @@ acceptable m q e =
 asks_column : (b d : Bool) (kind : Kind) → cond b (Some Read) (cond d (Some Write) None) ≡ Some kind → Column kind
 asks_column true d kind e = let w : Read ≡ kind = cc in subst Column w tt
 asks_column false true kind e = let w : Write ≡ kind = cc in subst Column w tt
-asks_column false false kind e = absurd (let z : ◌≡◌ {A = ℕ} 0 1 = cc in omega arith)
+asks_column false false kind e = cc
 
 -- an accepted request can be served under the policy's name for its bank
 pub entry_proper : (m : Machine) (q : Request) (number : ℕ) (kind : Kind) (deadline : ℕ) → Acceptable m q → asked_kind q.kind ≡ Some kind → WellShaped m.policy → m.policy.banks ≡ m.chip.banks → Proper m.chip (entry_for m.policy q number kind deadline)

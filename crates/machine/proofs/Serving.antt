@@ -8,7 +8,7 @@ use Rattle.rulebook.specs.Book.{open_row, Obeys}
 use Rattle.rulebook.proofs.Lists.{every_map}
 use Rattle.policy.specs.declared.entry.Entry.{Entry}
 use Rattle.policy.specs.Meaning.{Timely}
-use Rattle.policy.specs.Deadlines.{timely_sooner}
+use Rattle.policy.specs.FirstLaws.{timely_sooner}
 use Rattle.machine.specs.Machine.{Service, Machine, base_at, Goes, Ready, next_from, next_command, column_for, precharge_for, stays_after}
 use Rattle.machine.proofs.Stretches.{closing, opening, moving}
 use Rattle.machine.proofs.Steps.{begun, sent, Begins, running, idle, given, Halves}
@@ -121,7 +121,7 @@ half_runs m s now answer then is w g r = served_runs m s answer then (w ∙ is) 
 pub nothing_goes : (m : Machine) (now : Option Service) (answer : Option Command) (then : Option Service) → now ≡ None → Goes m now answer then → (answer ≡ None) × (then ≡ None)
 nothing_goes m None None then is g = (refl, g)
 nothing_goes m None (Some c) then is g = absurd g
-nothing_goes m (Some s) answer then is g = absurd (let z : ◌≡◌ {A = ℕ} 0 1 = cc in omega arith)
+nothing_goes m (Some s) answer then is g = cc
 
 tick_by : (m : Machine) (answer : Option Command) (then : Option Service) (pc : ℕ) (es : List Entry) (now : Option Service) → Begins m es now → Goes (begun m pc es now) now answer then → Running m → Runs (sent (begun m pc es now) answer then)
 tick_by m answer then pc es now (running s v w is) g r = half_runs (begun m pc es now) s now answer then is refl g (same_runs m pc es now w (is ∙ sym v) r)

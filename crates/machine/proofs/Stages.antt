@@ -6,9 +6,10 @@ use Rattle.sheet.specs.declared.geometry.Chip.{Chip}
 use Rattle.rulebook.specs.declared.command.Command.{Command}
 use Rattle.rulebook.specs.declared.command.Kind.{Kind}
 use Rattle.rulebook.specs.declared.command.Kind.TheVariants.{Idle, Activate, Precharge, Read, Write}
-use Rattle.rulebook.specs.Book.{Column, row_after, opened_by, opened_from, open_row, AllBefore, Lawful, Obeys}
+use Rattle.rulebook.specs.Book.{Column, row_after, open_row, AllBefore, Lawful, Obeys}
 use Rattle.rulebook.proofs.Lists.{every_map, every_last}
 use Rattle.rulebook.proofs.Obeying.{longer_obeys}
+use Rattle.rulebook.proofs.Recorded.{opened_more, opened_here}
 use Rattle.policy.specs.declared.entry.Entry.{Entry}
 use Rattle.machine.specs.Machine.{Service, Machine, column_for, precharge_for, activate_for, next_from, next_command, Ready, stays_after}
 use Rattle.machine.proofs.Stretches.{closing, opening, moving, some_closing, some_opening, some_moving, precharge_lawful, activate_lawful, column_lawful}
@@ -42,7 +43,7 @@ pub record Stage (m : Machine) (s : Service) : Type 0 where
   pub on_time : m.policy.holds ≡ true → s.entry.deadline + 1 ≡ s.start + m.policy.span
 
 none_some : (row : ℕ) → ◌≢◌ {A = Option ℕ} (Some row) None
-none_some row e = let z : ◌≡◌ {A = ℕ} 0 1 = cc in omega arith
+none_some row e = cc
 
 -- once its stage's limit is reached, the next command is lawful
 lawful_open : (s : Sheet) (k : Chip) (h : List Command) (e : Entry) (clock start row : ℕ) (b : Bool) → eqb row e.row ≡ b → open_row e.bank h ≡ Some row → Proper k e →
@@ -91,12 +92,8 @@ stage_waits m s g obeys p fits unready = elim (cases_lt (m.clock + 1) (s.start +
 ]
 
 -- the bank's row after one more command to it
-opened_more : (i : ℕ) (was : Option ℕ) (h : List Command) (c : Command) → opened_from i was (h ++ (c ∷ [])) ≡ opened_by i (opened_from i was h) c
-opened_more i was [] c = refl
-opened_more i was (x ∷ xs) c = opened_more i (opened_by i was x) xs c
-
 row_then : (h : List Command) (c : Command) → open_row c.bank (h ++ (c ∷ [])) ≡ row_after c.kind c.row (open_row c.bank h)
-row_then h c = opened_more c.bank None h c ∙ ap (λ (b : Bool). cond b (row_after c.kind c.row (open_row c.bank h)) (open_row c.bank h)) (eq-eqb c.bank c.bank refl)
+row_then h c = opened_more c.bank None h c ∙ opened_here c.bank (open_row c.bank h) c refl
 
 -- commands that lie before a cycle lie before a later one, one more among them
 pub later_floor : (t u : ℕ) (h : List Command) (c : Command) → t ≤ u → c.cycle < u → AllBefore t h → AllBefore u (h ++ (c ∷ []))

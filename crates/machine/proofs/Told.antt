@@ -6,12 +6,12 @@ use Rattle.std.proofs.lemmas.Bool.{le-ltb, cond-false}
 use Rattle.sheet.specs.declared.accepted.Sheet.{Sheet}
 use Rattle.sheet.specs.declared.geometry.Chip.{Chip}
 use Rattle.rulebook.specs.declared.command.Command.{Command}
+use Rattle.rulebook.proofs.Lists.{no_element}
 use Rattle.policy.specs.declared.entry.Request.{Request}
 use Rattle.policy.specs.declared.entry.Entry.{Entry}
 use Rattle.policy.specs.Meaning.{Meaning, SameShape}
 use Rattle.machine.specs.Machine.{Service, Machine, opened, asked_kind, Event, offer, accepted, ticked, refused, Exchange}
 use Rattle.machine.specs.Promises.{commands, ticks, AcceptedIn}
-use Rattle.machine.proofs.Lists.{no_element}
 use Rattle.machine.proofs.Steps.{changed, sent}
 use Rattle.machine.proofs.Running.{unserved}
 use Rattle.machine.proofs.Logs.{commands_more, ticks_more, accepted_longer, accepted_cut}
@@ -110,12 +110,12 @@ answered_accepted x q i d e = ap (λ (y : Exchange). y.answer) e
 no_refused : (e : Event) (why : ℕ) → NoAcceptance (record { event = e; answer = refused why })
 no_refused e why q i d w =
     let a : refused why ≡ accepted i d = answered_accepted (record { event = e; answer = refused why }) q i d w in
-    let z : ◌≡◌ {A = ℕ} 0 1 = cc in omega arith
+    cc
 
 pub no_ticked : (e : Event) (c : Option Command) → NoAcceptance (record { event = e; answer = ticked c })
 no_ticked e c q i d w =
     let a : ticked c ≡ accepted i d = answered_accepted (record { event = e; answer = ticked c }) q i d w in
-    let z : ◌≡◌ {A = ℕ} 0 1 = cc in omega arith
+    cc
 
 pub longer_due : (log : List Exchange) (x : Exchange) (e : Entry) → NoAcceptance x → Due log e → Due (log ++ (x ∷ [])) e
 longer_due log x e n h q i d a whose which = elim (accepted_cut log x q i d a) [ inl w ↦ absurd (n q i d w) | inr b ↦ h q i d b whose which ]

@@ -1,6 +1,6 @@
 -- Under turn order: deadlines lie at the ends of slots, each requester's at those of its own, and column commands go out there.
 use Rattle.std.proofs.Common.{◌≡◌, ℕ, ◌+◌, ◌-◌, ◌*◌, ◌%◌, ◌<◌, ◌≤◌, true, false, cond, eqb, ◌⊎◌, List, [], ◌∷◌, length, Some, None, Option, sym, refl, ap, ◌∙◌, subst, inl, inr, arith}
-use Rattle.std.specs.List.{insert, AllByRecursion}
+use Rattle.std.specs.List.{insert, AllByRecursion, slice_get}
 use Rattle.std.proofs.lemmas.Bool.{ne_eqb}
 use Rattle.sheet.specs.declared.accepted.Sheet.{Sheet}
 use Rattle.sheet.specs.declared.geometry.Chip.{Chip}
@@ -13,11 +13,12 @@ use Rattle.policy.specs.declared.entry.Request.{Request}
 use Rattle.policy.specs.declared.entry.Entry.{Entry}
 use Rattle.policy.specs.Meaning.{Meaning, Order, turn_order, Timely, own, due_before, places_of, own_slot, first_own_slot, slot_end, JoinsBy}
 use Rattle.policy.specs.Turns.{TurnSound, starts_now}
-use Rattle.policy.specs.Waiting.{entry_at}
 use Rattle.policy.specs.Slots.{next_slot_is, own_slot_of, own_later}
-use Rattle.policy.specs.Rooms.{places_inside, still_few, all_inside}
-use Rattle.policy.specs.TurnsLemmas.{turn_given, turn_idle, turn_shortened, turn_fresh}
-use Rattle.policy.proofs.Joining.{turn_joined}
+use Rattle.policy.specs.Ordered.{places_inside}
+use Rattle.policy.specs.Rooms.{still_few, all_inside}
+use Rattle.policy.specs.Passing.{turn_given, turn_idle}
+use Rattle.policy.specs.TurnLaws.{turn_shortened, turn_fresh}
+use Rattle.policy.specs.Joining.{turn_joined}
 use Rattle.machine.specs.Machine.{Service, Machine, opened, base_at, base, Accepted, Goes, Ready, next_from, next_command, column_for, stays_after, entry_for}
 use Rattle.machine.specs.Opens.{Fits}
 use Rattle.machine.proofs.Steps.{joined_to, begun, sent, Begins, running, idle, given, Halves}
@@ -93,7 +94,7 @@ accepted_turns m q number deadline n a r t =
     }
 
 -- a turn that gives nothing found no slot that starts now
-none_starts : (w c : ℕ) (es : List Entry) → 1 ≤ w → Timely w c es → starts_now w c (entry_at 0 es) ≡ false
+none_starts : (w c : ℕ) (es : List Entry) → 1 ≤ w → Timely w c es → starts_now w c (slice_get es 0) ≡ false
 none_starts w c [] o t = refl
 none_starts w c (e ∷ es) o t = ne_eqb e.deadline (c + w - 1) (λ i. omega (arith, t.0))
 

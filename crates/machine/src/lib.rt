@@ -1,4 +1,4 @@
-// The machine and its promises. Nothing runs here: each contract is a theorem about every chain of offers and ticks, refusals included, for every accepted sheet, chip, last cycle and policy that fits.
+// The machine and its promises, one function for each, so that each has a contract to be named by. Nothing runs here: each contract is a theorem about every chain of offers and ticks, refusals included, for every accepted sheet, chip, last cycle and policy that fits.
 #![tactic(auto)]
 
 ghost use Rattle.machine.specs.Promises.{WithinTheRules, AccountedFor, NumbersApart, CellsApart, ServedOnceInTime, DeadlinesNear, NumbersSmall, ApartFromOthers, OneAFrame, KeepsItsPromises};

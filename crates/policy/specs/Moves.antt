@@ -1,13 +1,12 @@
 -- What a call finds in a room, and what it leaves there.
 use Rattle.std.specs.Prelude.{◌≡◌, ℕ, max, Bool, List, length, nat_lt}
 use Rattle.policy.specs.Meaning.{own, places_of}
-use Rattle.policy.specs.Waiting.{waiting}
 use Rattle.policy.specs.declared.entry.Entry.{Entry}
 use Rattle.policy.specs.declared.room.Room.{Room}
 
 -- The entries that wait in a room.
 abbrev pub waiting_in : Room → List Entry
-waiting_in r = waiting r.queue
+waiting_in r = r.waiting.items
 
 -- Whether the requester has a place left.
 abbrev pub place_left : Room → ℕ → Bool

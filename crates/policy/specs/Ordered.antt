@@ -1,13 +1,20 @@
--- Orders over a room: their shape, and that no call changes it.
-use Rattle.std.specs.Prelude.{◌≡◌, ℕ, ◌+◌, ◌*◌, ◌≤◌, Bool, true, refl}
-use Rattle.std.proofs.Common.{ap, arith, mul-le-mul_left}
+-- Orders over a room: their shape.
+use Rattle.std.specs.Prelude.{◌≡◌, ℕ, ◌+◌, ◌*◌, ◌<◌, ◌≤◌, true, nat_lt, Bool}
+use Rattle.std.proofs.Common.{arith, mul-le-mul_left}
+use Rattle.std.proofs.lemmas.Bool.{lt-ltb, le-ltb, cond-true, cond-false}
+use Rattle.policy.specs.Meaning.{places_of, Order, turn_order, WellShaped}
 use Rattle.std.proofs.lemmas.Nat.{mul-le}
-use Rattle.policy.specs.Meaning.{Order, turn_order, WellShaped, SameShape, places_of}
 use Rattle.policy.specs.Making.{reach_of}
 use Rattle.policy.specs.Orders.{room_meaning}
 use Rattle.policy.specs.declared.room.Room.{Room}
-use Rattle.policy.specs.declared.numbers.Numbers.{Numbers}
-use Rattle.policy.specs.Rooms.{places_inside, places_outside}
+
+-- a requester has its places
+pub places_inside : (n q r : ℕ) → r < n → places_of n q r ≡ q
+places_inside n q r h = cond-true (nat_lt r n) q 0 (lt-ltb r n h)
+
+-- a stranger has none
+pub places_outside : (n q r : ℕ) → n ≤ r → places_of n q r ≡ 0
+places_outside n q r h = cond-false (nat_lt r n) q 0 (le-ltb r n h)
 
 -- 16 times 8 places and one more are 129 spans at most
 reach_bounded : (n q w : ℕ) → n ≤ 16 → q ≤ 8 → reach_of n q w ≤ 129 * w
@@ -28,16 +35,3 @@ room_shaped order holds r h =
       name_apart = λ b d s l k e. e;
       turns_hold = h;
     }
-
--- rooms with the same numbers mean policies of one shape
-pub room_kept : (order : Order) (holds : Bool) (r s : Room) → s.numbers ≡ r.numbers → SameShape (room_meaning order holds r) (room_meaning order holds s)
-room_kept order holds r s e = record {
-  requesters_same = ap (λ (x : Numbers). x.requesters) e;
-  places_same = ap (λ (x : Numbers). places_of x.requesters x.places) e;
-  span_same = ap (λ (x : Numbers). x.span) e;
-  banks_same = ap (λ (x : Numbers). x.banks) e;
-  reach_same = ap (λ (x : Numbers). reach_of x.requesters x.places x.span) e;
-  holds_same = refl;
-  names_same = refl;
-  order_same = refl;
-}

@@ -1,12 +1,31 @@
 -- Counting the entries of a room: where one more has a place, fewer wait than there are places.
-use Rattle.std.specs.Prelude.{◌≡◌, ℕ, zero, suc, ◌+◌, ◌*◌, ◌<◌, ◌≤◌, true, false, cond, not, List, [], ◌∷◌, ◌++◌, length, take, drop, filter, ◌==◌, ◌≢◌, nat_eq, nat_lt, refl}
-use Rattle.std.proofs.Common.{sym, ap, subst, ◌∙◌, inl, inr, arith, suc-mul}
+use Rattle.std.proofs.Common.{◌≡◌, ℕ, ◌+◌, ◌*◌, ◌≤◌, Bool, true, refl, ap, arith, zero, suc, ◌<◌, false, cond, not, List, [], ◌∷◌, ◌++◌, length, filter, ◌==◌, ◌≢◌, nat_eq, sym, subst, ◌∙◌, inl, inr, suc-mul}
+use Rattle.policy.specs.Meaning.{Order, SameShape, places_of, own}
+use Rattle.policy.specs.Making.{reach_of}
+use Rattle.policy.specs.Orders.{room_meaning}
+use Rattle.policy.specs.declared.room.Room.{Room}
+use Rattle.policy.specs.declared.numbers.Numbers.{Numbers}
+use Rattle.std.proofs.lemmas.List.Filters.{length-filter_both, sum_by-filter_both}
+use Rattle.std.proofs.lemmas.List.Sums.{length-filter, sum_by-insert}
 use Rattle.std.specs.List.{insert, AllByRecursion}
-use Rattle.std.proofs.lemmas.List.{nil_from_length, take-append-drop}
+use Rattle.std.proofs.lemmas.List.{nil_from_length}
 use Rattle.std.proofs.ByRecursion.{All-weaker, kept_by_passes}
-use Rattle.std.proofs.lemmas.Bool.{eq-eqb, ne_eqb, lt-ltb, le-ltb, cond-true, cond-false, cases_Bool, cases_eq, cases_lt, cases_order}
+use Rattle.std.proofs.lemmas.Bool.{eq-eqb, ne_eqb, cond-true, cond-false, cases_Bool, cases_eq, cases_lt, cases_order}
 use Rattle.policy.specs.declared.entry.Entry.{Entry}
-use Rattle.policy.specs.Meaning.{own, places_of}
+use Rattle.policy.specs.Ordered.{places_inside, places_outside}
+
+-- rooms with the same numbers mean policies of one shape
+pub room_kept : (order : Order) (holds : Bool) (r s : Room) → s.numbers ≡ r.numbers → SameShape (room_meaning order holds r) (room_meaning order holds s)
+room_kept order holds r s e = record {
+  requesters_same = ap (λ (x : Numbers). x.requesters) e;
+  places_same = ap (λ (x : Numbers). places_of x.requesters x.places) e;
+  span_same = ap (λ (x : Numbers). x.span) e;
+  banks_same = ap (λ (x : Numbers). x.banks) e;
+  reach_same = ap (λ (x : Numbers). reach_of x.requesters x.places x.span) e;
+  holds_same = refl;
+  names_same = refl;
+  order_same = refl;
+}
 
 -- the entries of all others
 abbrev others : ℕ → List Entry → List Entry
@@ -14,11 +33,7 @@ others r es = filter (λ e. not (e.requester == r)) es
 
 -- a requester's own entries and those of all others are all entries
 parted : (r : ℕ) (es : List Entry) → length es ≡ length (own r es) + length (others r es)
-parted r [] = refl
-parted r (e ∷ es) = elim (e.requester == r) as (λ b. suc (length es) ≡ length (cond b (e ∷ own r es) (own r es)) + length (cond (not b) (e ∷ others r es) (others r es))) [
-  | true ↦ omega (arith, parted r es)
-  | false ↦ omega (arith, parted r es)
-]
+parted r es = sym (length-filter_both (λ (e : Entry). e.requester == r) (λ (e : Entry). not (e.requester == r)) (λ _. refl) es)
 
 -- the others have no entry of the requester
 none_among_others : (r : ℕ) (es : List Entry) → length (own r (others r es)) ≡ 0
@@ -30,20 +45,9 @@ none_among_others r (e ∷ es) = elim (cases_Bool (e.requester == r)) [
 
 -- leaving entries out adds no entry of a requester
 fewer_among_others : (s r : ℕ) (es : List Entry) → length (own s (others r es)) ≤ length (own s es)
-fewer_among_others s r [] = omega arith
-fewer_among_others s r (e ∷ es) = let more = fewer_among_others s r es in
-    elim (e.requester == r) as (λ b. length (own s (cond (not b) (e ∷ others r es) (others r es))) ≤ length (own s (e ∷ es))) [
-      | true ↦ elim (e.requester == s) as (λ b. length (own s (others r es)) ≤ length (cond b (e ∷ own s es) (own s es))) [ true ↦ omega arith | false ↦ omega arith ]
-      | false ↦ elim (e.requester == s) as (λ b. length (cond b (e ∷ own s (others r es)) (own s (others r es))) ≤ length (cond b (e ∷ own s es) (own s es))) [ true ↦ omega arith | false ↦ omega arith ]
-    ]
-
--- a requester has its places
-pub places_inside : (n q r : ℕ) → r < n → places_of n q r ≡ q
-places_inside n q r h = cond-true (nat_lt r n) q 0 (lt-ltb r n h)
-
--- a stranger has none
-pub places_outside : (n q r : ℕ) → n ≤ r → places_of n q r ≡ 0
-places_outside n q r h = cond-false (nat_lt r n) q 0 (le-ltb r n h)
+fewer_among_others s r es =
+    let own_of : Entry → Bool = λ e. e.requester == s in
+    omega (arith, length-filter own_of (others r es), length-filter own_of es, sum_by-filter_both (λ (e : Entry). e.requester == r) (λ (e : Entry). not (e.requester == r)) (λ _. refl) (λ (e : Entry). cond (own_of e) 1 0) es)
 
 -- only requesters have places
 pub has_places : (n q r : ℕ) → 0 < places_of n q r → r < n
@@ -85,8 +89,9 @@ own_joined r (x ∷ front) e back = let more = own_joined r front e back in
 pub still_few : (n q place : ℕ) (es fs : List Entry) (e : Entry) → ((r : ℕ) → length (own r es) ≤ places_of n q r) → length (own e.requester es) < places_of n q e.requester → fs ≡ insert es place e → (r : ℕ) → length (own r fs) ≤ places_of n q r
 still_few n q place es fs e h l w r =
     let grown : length (own r fs) ≡ length (own r es) + cond (e.requester == r) 1 0 =
-    ap (λ t. length (own r t)) w ∙ own_joined r (take place es) e (drop place es)
-    ∙ ap (λ t. length (own r t) + cond (e.requester == r) 1 0) (take-append-drop place es) in
+    ap (λ t. length (own r t)) w ∙ length-filter (λ (x : Entry). x.requester == r) (insert es place e)
+    ∙ sum_by-insert (λ (x : Entry). cond (x.requester == r) 1 0) es place e
+    ∙ ap (λ k. k + cond (e.requester == r) 1 0) (sym (length-filter (λ (x : Entry). x.requester == r) es)) in
     elim (cases_eq e.requester r) [
       | inl i ↦ let m : length (own r es) < places_of n q r = subst (λ k. length (own k es) < places_of n q k) i l in
           omega (arith, cond-true {A = ℕ} (e.requester == r) 1 0 (eq-eqb e.requester r i))

@@ -1,6 +1,6 @@
 -- Turn order: what it keeps between calls that come in order.
-use Rattle.std.specs.Prelude.{◌≡◌, ℕ, ◌+◌, ◌-◌, ◌*◌, ◌<◌, ◌≤◌, Bool, false, List, [], ◌∷◌, Some, None, Option, ◌==◌}
-use Rattle.policy.specs.Meaning.{own, own_slot, slot_end}
+use Rattle.std.specs.Prelude.{◌≡◌, ℕ, ◌+◌, ◌-◌, ◌*◌, ◌<◌, ◌≤◌, Bool, false, List, [], ◌∷◌, length, Some, None, Option, ◌==◌}
+use Rattle.policy.specs.Meaning.{own, own_slot, first_own_slot, slot_end}
 use Rattle.policy.specs.Moves.{waiting_in}
 use Rattle.policy.specs.declared.entry.Entry.{Entry}
 use Rattle.policy.specs.declared.room.Room.{Room}
@@ -33,3 +33,8 @@ TurnSoundIn r c b = TurnSound r.numbers.span r.numbers.requesters c b (waiting_i
 abbrev pub starts_now : ℕ → ℕ → Option Entry → Bool
 starts_now span c None = false
 starts_now span c (Some e) = e.deadline == c + span - 1
+
+-- The deadline of the next entry of requester x where it joins at clock c: the end of the slot that follows those of its entries that wait, from its first slot that has not begun.
+abbrev pub deadline_by_slot : Room → ℕ → ℕ → ℕ
+deadline_by_slot r c x =
+    slot_end r.numbers.span (first_own_slot r.numbers.span r.numbers.requesters x c + length (own x (waiting_in r)) * r.numbers.requesters)

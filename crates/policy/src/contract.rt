@@ -1,13 +1,21 @@
 // What a policy is: its meaning, the laws of that meaning, and what its calls do to it.
-ghost use Rattle.std.specs.Prelude.{◌≡◌, ℕ, ◌+◌, ◌-◌, ◌≤◌, [], IfOk, MatchResult};
+ghost use Rattle.std.specs.Prelude.{◌≡◌, ℕ, ◌+◌, ◌-◌, ◌≤◌, Bool, [], IfOk, MatchResult};
 ghost use Rattle.policy.specs.Meaning.{Meaning, WellShaped, Timely, as_waiting, Taken, HasPlace, Full, Turned, base_after};
 
 use crate::entry::Entry;
 
+// Why an offer is refused: all places of its requester are taken by entries that wait.
+#[derive(Clone, Copy, Debug, PartialEq, Eq)]
+pub struct NoPlace;
+
 // Several policies stand behind these calls. Every call may be made at any time and returns; its points hold of calls that come in order, each on a policy that is sound at the clock and base it is called with.
+// Its numbers are asked one by one, and a layer hands each on by hand: every one is a public call with its own clause, and no `Numbers` would do for all, since a policy's places may differ by requester.
 pub trait Policy {
-    // Whether column commands are held until their deadlines; a layer has that of the policy below. Clauses cannot name it, so its value is told by `is_holding`.
+    // Whether column commands are held until their deadlines; a layer has that of the policy below.
     const HOLDS: bool;
+
+    // The constant, as contracts know it.
+    ghost HOLDS: { Bool };
 
     // What the policy stands for.
     ghost meaning: { Self → Meaning };
@@ -16,7 +24,7 @@ pub trait Policy {
     ghost sound: { Self → ℕ → ℕ → Type 0 };
 
     // Takes the request in and answers its deadline, whatever deadline it came with. It is refused exactly where its requester has all places waiting, and then nothing changes.
-    fn offer(&mut self, clock: u32, base: u64, entry: Entry) -> Result<u64, ()>
+    fn offer(&mut self, clock: u32, base: u64, entry: Entry) -> Result<u64, NoPlace>
         ensures refused { MatchResult result (λ _. HasPlace (meaning self.old) entry.requester) (λ _. (self.new ≡ self.old) × Full (meaning self.old) entry.requester) }
         ensures taken { sound self.old clock base → IfOk result (λ d. Taken (meaning self.old) clock base (as_waiting (meaning self.old) entry d) (meaning self.new) × sound self.new clock base) };
 
@@ -40,13 +48,12 @@ pub trait Policy {
     fn reach(&self) -> u32
         ensures { result ≡ (meaning self.now).reach };
 
-    // The clock of the last turn asked or offer taken, 0 when new.
+    // The clock of the last turn asked or offer taken; 0 when new, by a rule of the project (docs/DECISIONS.md).
     fn clock(&self) -> u32
         ensures { result ≡ (meaning self.now).clock };
 
-    // The constant, as contracts know it.
-    fn is_holding(&self) -> bool
-        ensures { result ≡ (meaning self.now).holds };
+    // The constant is what the policy means by holding.
+    ghost holding: { (p : Self) → (meaning p).holds ≡ HOLDS };
 
     // What is kept for good is within its limits.
     ghost shaped: { (p : Self) → WellShaped (meaning p) };

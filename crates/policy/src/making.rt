@@ -5,20 +5,18 @@ ghost use Rattle.policy.specs.Making.{policy_number, numbers_told, numbers_made,
 use crate::numbers::Numbers;
 
 // Why a policy is refused.
-#[derive(Clone, Copy)]
+#[derive(Clone, Copy, Debug, PartialEq, Eq)]
 pub enum PolicyRefusal {
     // Requesters are not 1 to 16, places not 1 to 8, the span not 7 to 1,785, or banks not 1 to 16.
-    Number,
+    Number = 6,
 }
 
 impl PolicyRefusal {
-    // The number of the refusal.
+    // The number of the refusal. It has a name and is no `From`: `u8::from` would not say that it is the listed number.
     pub fn number(self) -> u8
         ensures { result ≡ policy_number self }
     {
-        match self {
-            PolicyRefusal::Number => 6,
-        }
+        self as u8
     }
 }
 
@@ -27,10 +25,11 @@ impl Numbers {
     pub fn new(requesters: u8, places: u8, span: u32, banks: u8) -> Result<Numbers, PolicyRefusal>
         ensures { numbers_told result ≡ numbers_made requesters places span banks }
     {
-        if requesters < 1 || requesters > 16 || places < 1 || places > 8 {
-            return Err(PolicyRefusal::Number);
-        }
-        if span < 7 || span > 1_785 || banks < 1 || banks > 16 {
+        let fit = (1..=16).contains(&requesters)
+            && (1..=8).contains(&places)
+            && (7..=1_785).contains(&span)
+            && (1..=16).contains(&banks);
+        if !fit {
             return Err(PolicyRefusal::Number);
         }
         Ok(Numbers {

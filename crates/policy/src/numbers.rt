@@ -2,7 +2,7 @@
 ghost use Rattle.std.specs.Prelude.{◌≤◌};
 
 // Requesters, places of each, the span of a service and the bank count. Made by `Numbers::new`; their limits hold for good.
-#[derive(Clone, Copy)]
+#[derive(Clone, Copy, Debug, PartialEq, Eq)]
 pub struct Numbers {
     pub requesters: u8,
     pub places: u8,

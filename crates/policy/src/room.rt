@@ -1,19 +1,19 @@
 // The entries that wait, with what the policy was made for.
-ghost use Rattle.std.specs.Prelude.{◌≡◌, ℕ, ◌≤◌, length};
+ghost use Rattle.std.specs.Prelude.{◌≡◌, ℕ, ◌≤◌, [], length};
 ghost use Rattle.policy.specs.Meaning.{own, places_of};
-ghost use Rattle.policy.specs.Waiting.{waiting};
 
+use crate::entry::Entry;
 use crate::numbers::Numbers;
-use crate::queue::Queue;
+use arrayvec::ArrayVec;
 
 mod calls; // making one, and taking entries in and out
 
-// What every order keeps: the queue, its numbers and the latest clock. No requester has more entries waiting than places, and at clock 0 nothing waits.
+// What every order keeps: the entries that wait, in order of service, the numbers and the latest clock. No requester has more entries waiting than places, and at clock 0 nothing waits.
 #[derive(Drop)]
 pub struct Room {
-    queue: Queue,
-    numbers: Numbers,
-    clock: u32,
-    ghost few: { (r : ℕ) → length (own r (waiting queue)) ≤ places_of numbers.requesters numbers.places r },
-    ghost fresh: { clock ≡ 0 → length (waiting queue) ≡ 0 },
+    pub(crate) waiting: ArrayVec<Entry, 128>,
+    pub(crate) numbers: Numbers,
+    pub(crate) clock: u32,
+    ghost few: { (r : ℕ) → length (own r waiting.items) ≤ places_of numbers.requesters numbers.places r },
+    ghost fresh: { clock ≡ 0 → waiting.items ≡ [] },
 }

@@ -4,7 +4,7 @@ ghost use Rattle.policy.specs.Spreading.{spread_bank, spread};
 ghost use Rattle.policy.specs.Spreads.{spread_shaped};
 ghost use Rattle.std.proofs.Common.{rules};
 
-use crate::contract::Policy;
+use crate::contract::{NoPlace, Policy};
 use crate::entry::Entry;
 
 // A policy over the policy below: bank b of row r is passed down as (b + r) mod banks, and all else is as below.
@@ -25,9 +25,13 @@ impl<P: Policy> Spreading<P> {
 impl<P: Policy> Policy for Spreading<P> {
     const HOLDS: bool = P::HOLDS;
 
+    ghost HOLDS = { P.Policy.HOLDS };
+
     ghost meaning = { λ p. spread (P.Policy.meaning p.below) };
 
     ghost sound = { λ p c b. P.Policy.sound p.below c b };
+
+    ghost holding = { λ p. P.Policy.holding p.below };
 
     ghost shaped = { λ p. spread_shaped (P.Policy.meaning p.below) (P.Policy.shaped p.below) };
 
@@ -37,7 +41,7 @@ impl<P: Policy> Policy for Spreading<P> {
 
     ghost shortened = { λ p c b d a. P.Policy.shortened p.below c b d a };
 
-    fn offer(&mut self, clock: u32, base: u64, entry: Entry) -> Result<u64, ()> {
+    fn offer(&mut self, clock: u32, base: u64, entry: Entry) -> Result<u64, NoPlace> {
         let bank = passed_down(self.below.banks(), entry.bank, entry.row);
         self.below.offer(clock, base, Entry { bank, ..entry })
     }
@@ -65,13 +69,9 @@ impl<P: Policy> Policy for Spreading<P> {
     fn clock(&self) -> u32 {
         self.below.clock()
     }
-
-    fn is_holding(&self) -> bool {
-        self.below.is_holding()
-    }
 }
 
-// The bank under which a bank and row are passed down.
+// The bank under which a bank and row are passed down. The bank count is that of any policy, so no type has its limit.
 fn passed_down(banks: u8, bank: u8, row: u16) -> u8
     requires { 1 ≤ banks }
     ensures { result ≡ spread_bank banks bank row }

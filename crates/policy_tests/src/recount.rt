@@ -1,167 +1,150 @@
 // What waits, kept apart from any policy: a bag of entries in no order, over which every point is counted anew.
-use policy::Entry;
+use arrayvec::ArrayVec;
+use policy::{Entry, FirstCome, Numbers, Policy, Spreading, TurnOrder};
 use std::process::Abort;
 use std::test::*;
 
-// What a run is made for.
-#[derive(Clone, Copy)]
-pub struct Setup {
-    pub requesters: u8,
-    pub places: u8,
-    pub span: u32,
-    pub banks: u8,
-}
-
-// Which order of service is expected. The numbers of a run's entries rise with each offer.
-#[derive(Clone, Copy)]
-pub enum Expected {
-    FirstCome,
-    TurnOrder,
-}
-
-impl Expected {
+// A policy with what is expected of it. The numbers of a run's entries rise with each offer.
+pub(crate) trait Expected: Policy {
     // What rises with the place of an entry.
-    fn rank(self, entry: Entry) -> u64 {
-        match self {
-            Expected::FirstCome => u64::from(entry.number),
-            Expected::TurnOrder => entry.deadline,
-        }
+    fn rank(entry: Entry) -> u64;
+
+    // The deadline of an offer of the requester, from what waits.
+    fn deadline(bag: &Bag, requester: u8, clock: u32, base: u64) -> u64;
+
+    // The bank under which an entry is kept.
+    fn bank(numbers: Numbers, entry: Entry) -> u8;
+}
+
+impl Expected for FirstCome {
+    fn rank(entry: Entry) -> u64 {
+        u64::from(entry.number)
+    }
+
+    fn deadline(bag: &Bag, _requester: u8, _clock: u32, base: u64) -> u64 {
+        bag.spans_after(base, bag.len().saturating_add(1))
+    }
+
+    fn bank(_numbers: Numbers, entry: Entry) -> u8 {
+        entry.bank
     }
 }
 
-// The entries that wait, in no order.
+impl Expected for TurnOrder {
+    fn rank(entry: Entry) -> u64 {
+        entry.deadline
+    }
+
+    fn deadline(bag: &Bag, requester: u8, clock: u32, _base: u64) -> u64 {
+        slot_end_of(bag.numbers, bag.own(requester), requester, clock)
+    }
+
+    fn bank(_numbers: Numbers, entry: Entry) -> u8 {
+        entry.bank
+    }
+}
+
+// A layer turns the bank round the bank count by the row, and all else is as below.
+impl<P: Expected> Expected for Spreading<P> {
+    fn rank(entry: Entry) -> u64 {
+        P::rank(entry)
+    }
+
+    fn deadline(bag: &Bag, requester: u8, clock: u32, base: u64) -> u64 {
+        P::deadline(bag, requester, clock, base)
+    }
+
+    fn bank(numbers: Numbers, entry: Entry) -> u8 {
+        let turned = u32::from(entry.bank) + u32::from(entry.row);
+        let bank = (turned % u32::from(numbers.banks)) as u8;
+        P::bank(numbers, Entry { bank, ..entry })
+    }
+}
+
+// The entries that wait, in no order, and the numbers of the policy.
 #[derive(Drop)]
-pub struct Bag {
-    entries: [Option<Entry>; 128],
-    order: Expected,
+pub(crate) struct Bag {
+    entries: ArrayVec<Entry, 128>,
+    pub(crate) numbers: Numbers,
 }
 
 impl Bag {
     // Nothing waits.
-    pub(crate) fn new(order: Expected) -> Bag {
+    pub(crate) fn new(numbers: Numbers) -> Bag {
         Bag {
-            entries: [None; 128],
-            order,
+            entries: ArrayVec::new(),
+            numbers,
         }
     }
 
     // How many entries wait.
     pub(crate) fn len(&self) -> u64 {
-        let mut count: u64 = 0;
-        for kept in &self.entries {
-            if kept.is_some() {
-                count = count.saturating_add(1);
-            }
-        }
-        count
+        self.entries.len() as u64
     }
 
     // How many entries of the requester wait.
-    pub(crate) fn own(&self, requester: u8) -> u64 {
-        let mut count: u64 = 0;
-        for kept in &self.entries {
-            if let Some(entry) = kept {
-                if entry.requester == requester {
-                    count = count.saturating_add(1);
-                }
-            }
-        }
-        count
+    pub(crate) fn own(&self, requester: u8) -> usize {
+        self.entries
+            .iter()
+            .filter(|entry| entry.requester == requester)
+            .count()
+    }
+
+    // Whether there is no such requester, or all its places wait.
+    pub(crate) fn is_full(&self, requester: u8) -> bool {
+        requester >= self.numbers.requesters
+            || self.own(requester) >= usize::from(self.numbers.places)
+    }
+
+    // So many spans after the base.
+    fn spans_after(&self, base: u64, spans: u64) -> u64 {
+        base.saturating_add(spans.saturating_mul(u64::from(self.numbers.span)))
     }
 
     // The place of an entry in the order of service: how many entries come before it.
-    fn place(&self, served: Entry) -> u64 {
-        let mut count: u64 = 0;
-        for kept in &self.entries {
-            if let Some(entry) = kept {
-                if self.order.rank(*entry) < self.order.rank(served) {
-                    count = count.saturating_add(1);
-                }
-            }
-        }
-        count
+    fn place<P: Expected>(&self, served: Entry) -> u64 {
+        let rank = P::rank(served);
+        self.entries
+            .iter()
+            .filter(|entry| P::rank(**entry) < rank)
+            .count() as u64
     }
 
     // Place j has a deadline of at least base + (j + 1) spans.
-    pub(crate) fn leaves_room(&self, rt: &impl Abort, base: u64, span: u32) -> Result<(), Fail> {
-        for kept in &self.entries {
-            if let Some(entry) = kept {
-                let spans = self.place(*entry).saturating_add(1);
-                let least = base.saturating_add(spans.saturating_mul(u64::from(span)));
-                assert!(rt; least <= entry.deadline);
-            }
+    pub(crate) fn leaves_room<P: Expected>(&self, rt: &impl Abort, base: u64) {
+        for entry in &self.entries {
+            let spans = self.place::<P>(*entry).saturating_add(1);
+            assert!(rt; self.spans_after(base, spans) <= entry.deadline);
         }
-        Ok(())
     }
 
     // The entry joins.
     pub(crate) fn put(&mut self, entry: Entry) -> Result<(), Fail> {
-        for kept in self.entries.iter_mut() {
-            if kept.is_none() {
-                *kept = Some(entry);
-                return Ok(());
-            }
-        }
-        Err(Fail::new("more than 128 wait"))
+        self.entries.try_push(entry)?;
+        Ok(())
     }
 
     // The entry was the first in the order of service, and leaves.
-    pub(crate) fn take_first(&mut self, rt: &impl Abort, first: Entry) -> Result<(), Fail> {
-        assert_eq!(rt; self.place(first), 0);
-        for kept in self.entries.iter_mut() {
-            if let Some(entry) = *kept {
-                if is_same(entry, first) {
-                    *kept = None;
-                    return Ok(());
-                }
-            }
-        }
-        Err(Fail::new("nothing like it was offered"))
-    }
-}
-
-// Whether the entries agree in every field.
-fn is_same(a: Entry, b: Entry) -> bool {
-    a.requester == b.requester
-        && a.number == b.number
-        && a.kind.number() == b.kind.number()
-        && a.bank == b.bank
-        && a.row == b.row
-        && a.column == b.column
-        && a.deadline == b.deadline
-}
-
-// The deadline that the order gives to an offer, from what waits.
-pub(crate) fn deadline_of(setup: Setup, bag: &Bag, requester: u8, clock: u32, base: u64) -> u64 {
-    match bag.order {
-        Expected::FirstCome => {
-            let spans = bag.len().saturating_add(1);
-            base.saturating_add(spans.saturating_mul(u64::from(setup.span)))
-        }
-        Expected::TurnOrder => slot_end_of(setup, bag.own(requester), requester, clock),
+    pub(crate) fn take_first<P: Expected>(
+        &mut self,
+        rt: &impl Abort,
+        first: Entry,
+    ) -> Result<(), Fail> {
+        assert_eq!(rt; self.place::<P>(first), 0);
+        let found = self.entries.iter().position(|entry| *entry == first);
+        let at = found.ok_or("nothing like it was offered")?;
+        let _ = self.entries.swap_pop(at);
+        Ok(())
     }
 }
 
 // The last cycle of the requester's own slot, from 0, that lies behind so many others of those that start at the clock or later: slots are gone through one by one.
-fn slot_end_of(setup: Setup, behind: u64, requester: u8, clock: u32) -> u64 {
-    let mut owner: u8 = 0;
-    let mut start: u64 = 1;
-    let mut left = behind;
-    for _ in 0..100_000 {
-        let end = start
-            .saturating_add(u64::from(setup.span))
-            .saturating_sub(1);
-        if owner == requester && start >= u64::from(clock) {
-            if left == 0 {
-                return end;
-            }
-            left = left.saturating_sub(1);
-        }
-        start = end.saturating_add(1);
-        owner = owner.saturating_add(1);
-        if owner >= setup.requesters {
-            owner = 0;
-        }
-    }
-    0
+fn slot_end_of(numbers: Numbers, behind: usize, requester: u8, clock: u32) -> u64 {
+    let span = u64::from(numbers.span);
+    (0..100_000u64)
+        .filter(|slot| slot % u64::from(numbers.requesters) == u64::from(requester))
+        .map(|slot| slot.saturating_mul(span).saturating_add(1))
+        .filter(|start| *start >= u64::from(clock))
+        .nth(behind)
+        .map_or(0, |start| start.saturating_add(span).saturating_sub(1))
 }

@@ -1,8 +1,9 @@
 // The tests: worked values, refusals, and runs against the recount.
-use crate::recount::{Expected, Setup};
-use crate::run::run;
-use policy::{Entry, FirstCome, Policy, Spreading, TurnOrder};
+use crate::recount::Expected;
+use crate::run::{Course, run};
+use policy::{Entry, FirstCome, NoPlace, Numbers, Policy, PolicyRefusal, Spreading, TurnOrder};
 use rulebook::Kind;
+use std::process::Abort;
 use std::test::*;
 
 // A read of the requester.
@@ -20,9 +21,7 @@ fn read_of(requester: u8) -> Entry {
 
 #[test]
 fn first_come_counts_from_the_base(rt: HostRuntime) -> Result<(), Fail> {
-    let Ok(mut policy) = FirstCome::new(2, 2, 36, 8) else {
-        return Err(Fail::new("not made"));
-    };
+    let mut policy = FirstCome::new(2, 2, 36, 8)?;
     assert_eq!(rt; policy.reach(), 180);
     assert_eq!(rt; policy.offer(1, 0, read_of(0)), Ok(36));
     assert_eq!(rt; policy.offer(1, 0, read_of(1)), Ok(72));
@@ -34,12 +33,10 @@ fn first_come_counts_from_the_base(rt: HostRuntime) -> Result<(), Fail> {
 
 #[test]
 fn turn_order_gives_own_slots(rt: HostRuntime) -> Result<(), Fail> {
-    let Ok(mut policy) = TurnOrder::new(2, 2, 36, 8) else {
-        return Err(Fail::new("not made"));
-    };
+    let mut policy = TurnOrder::new(2, 2, 36, 8)?;
     assert_eq!(rt; policy.offer(1, 0, read_of(1)), Ok(72));
     assert_eq!(rt; policy.offer(1, 0, read_of(1)), Ok(144));
-    assert_eq!(rt; policy.offer(1, 0, read_of(1)), Err(()));
+    assert_eq!(rt; policy.offer(1, 0, read_of(1)), Err(NoPlace));
     assert!(rt; policy.turn(1).is_none());
     assert!(rt; policy.turn(36).is_none());
     assert!(rt; policy.turn(37).is_some());
@@ -48,13 +45,9 @@ fn turn_order_gives_own_slots(rt: HostRuntime) -> Result<(), Fail> {
 
 // The deadline that requester 0 is given alone at the clock.
 fn alone_at(clock: u32) -> Option<u64> {
-    let Ok(mut policy) = TurnOrder::new(2, 2, 36, 8) else {
-        return None;
-    };
-    match policy.offer(clock, u64::from(clock).saturating_sub(1), read_of(0)) {
-        Ok(deadline) => Some(deadline),
-        Err(()) => None,
-    }
+    let mut policy = TurnOrder::new(2, 2, 36, 8).ok()?;
+    let base = u64::from(clock).saturating_sub(1);
+    policy.offer(clock, base, read_of(0)).ok()
 }
 
 #[test]
@@ -68,18 +61,12 @@ fn a_slot_that_has_begun_is_not_taken(rt: HostRuntime) -> Result<(), Fail> {
 
 #[test]
 fn spreading_turns_banks_by_the_row(rt: HostRuntime) -> Result<(), Fail> {
-    let Ok(below) = FirstCome::new(2, 2, 36, 8) else {
-        return Err(Fail::new("not made"));
-    };
+    let below = FirstCome::new(2, 2, 36, 8)?;
     let mut policy = Spreading::new(below);
     assert_eq!(rt; policy.offer(1, 0, read_of(0)), Ok(36));
-    match policy.turn(1) {
-        Some(entry) => {
-            assert_eq!(rt; entry.bank, 1);
-            Ok(())
-        },
-        None => Err(Fail::new("nothing given")),
-    }
+    let given = policy.turn(1).ok_or("nothing given")?;
+    assert_eq!(rt; given.bank, 1);
+    Ok(())
 }
 
 #[test]
@@ -123,7 +110,7 @@ fn numbers_out_of_range_are_refused(rt: HostRuntime) -> Result<(), Fail> {
             }
         }
         match TurnOrder::new(requesters, places, span, banks) {
-            Ok(policy) => assert!(rt; made && policy.is_holding()),
+            Ok(policy) => assert!(rt; made && TurnOrder::HOLDS),
             Err(refusal) => assert!(rt; !made && refusal.number() == 6),
         }
     }
@@ -142,84 +129,44 @@ const RUNS: [(u8, u8, u32, u8, u64, u32, u32); 8] = [
     (5, 4, 1_785, 8, 8, 60_000, 300),
 ];
 
-#[test]
-fn first_come_keeps_its_points(rt: HostRuntime) -> Result<(), Fail> {
+// A policy that is made for the numbers of each run keeps its points all along, and some offers are taken and some refused.
+fn keeps_its_points<P, F>(rt: &impl Abort, make: F) -> Result<(), Fail>
+where
+    P: Expected + Drop,
+    F: Fn(u8, u8, u32, u8) -> Result<P, PolicyRefusal>,
+    requires { F.IsAlwaysCallable make }
+{
     for (requesters, places, span, banks, seed, ticks, calm) in RUNS {
-        let setup = Setup {
-            requesters,
-            places,
-            span,
-            banks,
-        };
-        let Ok(mut policy) = FirstCome::new(requesters, places, span, banks) else {
-            return Err(Fail::new("not made"));
-        };
-        let seen = run(
-            &rt,
-            &mut policy,
-            Expected::FirstCome,
-            0,
-            setup,
-            seed,
-            ticks,
-            calm,
-        )?;
+        let numbers = Numbers::new(requesters, places, span, banks)?;
+        let policy = make(requesters, places, span, banks)?;
+        let seen = run(rt, policy, numbers, Course { seed, ticks, calm })?;
         assert!(rt; seen.given > 0 && seen.refused > 0);
     }
     Ok(())
+}
+
+// Turn order below two layers.
+fn two_layers(
+    requesters: u8,
+    places: u8,
+    span: u32,
+    banks: u8,
+) -> Result<Spreading<Spreading<TurnOrder>>, PolicyRefusal> {
+    let below = TurnOrder::new(requesters, places, span, banks)?;
+    Ok(Spreading::new(Spreading::new(below)))
+}
+
+#[test]
+fn first_come_keeps_its_points(rt: HostRuntime) -> Result<(), Fail> {
+    keeps_its_points(&rt, FirstCome::new)
 }
 
 #[test]
 fn turn_order_keeps_its_points(rt: HostRuntime) -> Result<(), Fail> {
-    for (requesters, places, span, banks, seed, ticks, calm) in RUNS {
-        let setup = Setup {
-            requesters,
-            places,
-            span,
-            banks,
-        };
-        let Ok(mut policy) = TurnOrder::new(requesters, places, span, banks) else {
-            return Err(Fail::new("not made"));
-        };
-        let seen = run(
-            &rt,
-            &mut policy,
-            Expected::TurnOrder,
-            0,
-            setup,
-            seed,
-            ticks,
-            calm,
-        )?;
-        assert!(rt; seen.given > 0 && seen.refused > 0);
-    }
-    Ok(())
+    keeps_its_points(&rt, TurnOrder::new)
 }
 
 #[test]
 fn layers_keep_the_points_below(rt: HostRuntime) -> Result<(), Fail> {
-    for (requesters, places, span, banks, seed, ticks, calm) in RUNS {
-        let setup = Setup {
-            requesters,
-            places,
-            span,
-            banks,
-        };
-        let Ok(below) = TurnOrder::new(requesters, places, span, banks) else {
-            return Err(Fail::new("not made"));
-        };
-        let mut policy = Spreading::new(Spreading::new(below));
-        let seen = run(
-            &rt,
-            &mut policy,
-            Expected::TurnOrder,
-            2,
-            setup,
-            seed,
-            ticks,
-            calm,
-        )?;
-        assert!(rt; seen.given > 0 && seen.refused > 0);
-    }
-    Ok(())
+    keeps_its_points(&rt, two_layers)
 }

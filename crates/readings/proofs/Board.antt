@@ -5,7 +5,7 @@ use Rattle.rulebook.specs.declared.command.Kind.TheVariants.{Read}
 use Rattle.policy.specs.declared.entry.Entry.{Entry}
 use Rattle.policy.specs.Meaning.{Order, free, first_come, turn_order, Meaning, WellShaped, SameShape, places_of, JoinsBy, IdleBy}
 use Rattle.policy.specs.Orders.{ordered}
-use Rattle.policy.specs.Rooms.{places_inside, places_outside}
+use Rattle.policy.specs.Ordered.{places_inside, places_outside}
 use Rattle.machine.specs.Machine.{Service, Machine, opened, offer_refusal, Accepted, Ticked, Exchange, Chain}
 use Rattle.machine.specs.Opens.{Fits}
 use Rattle.machine.proofs.Determined.{answers_determined}

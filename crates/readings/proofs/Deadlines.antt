@@ -10,13 +10,13 @@ use Rattle.readings.specs.Deadlines.{Names, AcceptsNone, FirstIdle, TurnWaiting,
 use Rattle.readings.proofs.Board.{board, same, Opens, answered_only, idle, idle_chain, waits, one_of, asked, idle_accepts}
 
 pub first_opens : Opens first_come false 1000000
-first_opens = record { named = λ e. let z : ◌≡◌ {A = ℕ} 0 1 = cc in omega arith; turns_hold = λ e. absurd (let z : ◌≡◌ {A = ℕ} 0 1 = cc in omega arith); last_in = (omega arith, omega arith) }
+first_opens = record { named = λ e. cc; turns_hold = λ e. cc; last_in = (omega arith, omega arith) }
 
 short_opens : Opens first_come false 180
 short_opens = record { named = first_opens.named; turns_hold = first_opens.turns_hold; last_in = (omega arith, omega arith) }
 
 turn_opens : Opens turn_order true 1000000
-turn_opens = record { named = λ e. let z : ◌≡◌ {A = ℕ} 0 1 = cc in omega arith; turns_hold = λ _. refl; last_in = (omega arith, omega arith) }
+turn_opens = record { named = λ e. cc; turns_hold = λ _. refl; last_in = (omega arith, omega arith) }
 
 -- what first come says of the deadline, in any machine
 first_names : (m : Machine) (r clock : ℕ) → FirstIdle m clock → Names m r ((clock - 1) + 36 * (0 + 1))

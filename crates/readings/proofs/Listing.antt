@@ -29,7 +29,7 @@ at policy_clock clock es now counts trace = board first_come false 1000000 polic
 -- what is in service sends its next command where the record takes it in
 goes_out : (policy_clock clock : ℕ) (es : List Entry) (was : Option Service) (counts : ℕ → ℕ) (trace : List Command) (b : Book) (s : Service) (c : Command) →
     c ≡ next_command (at policy_clock clock es was counts trace) s.entry → Known small_sheet small_chip (trace ++ (c ∷ [])) b → Goes (at policy_clock clock es was counts trace) (Some s) (Some c) (stays_after c.kind s)
-goes_out policy_clock clock es was counts trace b s c is n = (is, (subst (λ (d : Command). Obeys small_sheet small_chip (trace ++ (d ∷ []))) is n.obeys, λ h. absurd (let z : ◌≡◌ {A = ℕ} 0 1 = cc in omega arith)), refl)
+goes_out policy_clock clock es was counts trace b s c is n = (is, (subst (λ (d : Command). Obeys small_sheet small_chip (trace ++ (d ∷ []))) is n.obeys, λ h. cc), refl)
 
 -- and waits where it does not
 waits_on : (policy_clock clock : ℕ) (es : List Entry) (was : Option Service) (counts : ℕ → ℕ) (trace : List Command) (b : Book) (s : Service) (r : Rule) →
@@ -47,7 +47,7 @@ starts_with : (clock : ℕ) (e : Entry) (counts : ℕ → ℕ) (trace : List Com
 starts_with clock e counts trace answer then l g = record {
   running = l;
   now_served = Some (record { entry = e; start = clock });
-  in_service = (Some e, (same first_come false clock clock (e ∷ []) [], refl, refl, λ h. absurd (let z : ◌≡◌ {A = ℕ} 0 1 = cc in omega arith)), refl);
+  in_service = (Some e, (same first_come false clock clock (e ∷ []) [], refl, refl, λ h. cc), refl);
   goes = g;
   clock_rises = refl;
   trace_grows = refl;

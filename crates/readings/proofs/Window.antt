@@ -66,11 +66,11 @@ unclean clean = twelve_breaks.broken (clean.obeys four_activates (activate_at 12
 
 -- every record is proper
 all_proper_at : (line : ℕ) → line < 5 → proper (get_or (five_activates 12) line no_command) ≡ false → ⊥
-all_proper_at zero l e = let z : ◌≡◌ {A = ℕ} 0 1 = cc in omega arith
-all_proper_at (suc zero) l e = let z : ◌≡◌ {A = ℕ} 0 1 = cc in omega arith
-all_proper_at (suc (suc zero)) l e = let z : ◌≡◌ {A = ℕ} 0 1 = cc in omega arith
-all_proper_at (suc (suc (suc zero))) l e = let z : ◌≡◌ {A = ℕ} 0 1 = cc in omega arith
-all_proper_at (suc (suc (suc (suc zero)))) l e = let z : ◌≡◌ {A = ℕ} 0 1 = cc in omega arith
+all_proper_at zero l e = cc
+all_proper_at (suc zero) l e = cc
+all_proper_at (suc (suc zero)) l e = cc
+all_proper_at (suc (suc (suc zero))) l e = cc
+all_proper_at (suc (suc (suc (suc zero)))) l e = cc
 all_proper_at (suc (suc (suc (suc (suc n))))) l e = omega arith
 
 -- so the checker refuses the fifth by rule 16, and can answer nothing else

@@ -6,12 +6,11 @@ use Rattle.std.proofs.lemmas.List.{take-append-drop}
 use Rattle.sheet.specs.declared.accepted.Sheet.{Sheet}
 use Rattle.sheet.specs.declared.geometry.Chip.{Chip}
 use Rattle.rulebook.specs.Book.{Every, activates, Obeys}
-use Rattle.rulebook.specs.Kinds.{same_kind}
 use Rattle.rulebook.specs.Summary.{Latest, cycle_at}
 use Rattle.rulebook.specs.declared.command.Command.{Command}
 use Rattle.rulebook.specs.declared.command.Kind.TheVariants.{Activate}
 use Rattle.rulebook.specs.declared.rule.Rule.TheVariants.{CyclesRise}
-use Rattle.rulebook.proofs.Recorded.{latest_more}
+use Rattle.rulebook.proofs.Recorded.{latest_more, activates_more}
 use Rattle.rulebook.proofs.Told.{Asks}
 use Rattle.trace.specs.Fields.{and_then}
 use Rattle.trace.specs.Line.{command_in}
@@ -50,15 +49,6 @@ latest_is such P asks s k text cs stand obeys (suc n) h =
     let more = latest_more P (take n cs) c (such c) (cycle_of (before 0)) (asks c) (rises s k cs n obeys within) (latest_is such P asks s k text cs stand obeys n (omega arith)) in
     subst (λ (t : List Command). Latest P t (cycle_of (latest_such such 0 text (suc n)))) (sym (take-suc cs n no_command within))
     (subst (λ (o : Option ℕ). Latest P (take n cs ++ c ∷ []) o) (sym here) more)
-
-activates_more : (h : List Command) (c : Command) → activates (h ++ c ∷ []) ≡ activates h ++ activates (c ∷ [])
-activates_more [] c = refl
-activates_more (x ∷ xs) c = by_kind (same_kind x.kind Activate) (activates_more xs c)
-  where
-    by_kind : (b : Bool) → activates (xs ++ c ∷ []) ≡ activates xs ++ activates (c ∷ []) →
-        cond b (x ∷ activates (xs ++ c ∷ [])) (activates (xs ++ c ∷ [])) ≡ cond b (x ∷ activates xs) (activates xs) ++ activates (c ∷ [])
-    by_kind true e = ap (λ t. x ∷ t) e
-    by_kind false e = e
 
 nothing_at : (over : ℕ) → None ≡ cycle_at over []
 nothing_at zero = refl

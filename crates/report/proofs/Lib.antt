@@ -1,5 +1,6 @@
 -- Lemmas of this crate.
 pub mod Backwards
+pub mod Cut
 pub mod Digits
 pub mod Latest
 pub mod Named

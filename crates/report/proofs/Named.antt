@@ -5,6 +5,7 @@ use Rattle.std.proofs.lemmas.Bool.{ltb-true, lt-ltb, cond-true}
 use Rattle.sheet.specs.Spans.{read_to_write, write_to_read, write_to_precharge}
 use Rattle.sheet.specs.Units.{cycles}
 use Rattle.sheet.specs.declared.accepted.Sheet.{Sheet}
+use Rattle.sheet.specs.declared.board.Board.{Board}
 use Rattle.sheet.specs.declared.geometry.Chip.{Chip}
 use Rattle.sheet.specs.declared.units.Cycles.{Cycles}
 use Rattle.rulebook.specs.Answer.{too_soon}
@@ -20,7 +21,6 @@ use Rattle.trace.specs.Board.{board_told, board_made}
 use Rattle.trace.specs.Fields.{and_then}
 use Rattle.trace.specs.Line.{command_in}
 use Rattle.trace.specs.Text.{no_command, line_at, line_count, lines_of}
-use Rattle.trace.specs.declared.board.Board.{Board}
 use Rattle.trace.specs.declared.board.BoardRefusal.{BoardRefusal}
 use Rattle.trace.proofs.TextLaws.{length_lines, get_or_lines}
 use Rattle.checker.specs.Judging.{JudgedLines, JudgedBy, JudgedText}
@@ -29,7 +29,7 @@ use Rattle.checker.specs.declared.refusals.TextRefusal.TheVariants.{TooLong, Boa
 use Rattle.report.specs.Gaps.{gap_of, is_of, counts_from, From, latest_such, counted_from, pair_near, missing_gap, Named}
 use Rattle.report.specs.Judging.{GapTold, GapNamed}
 use Rattle.report.specs.declared.gaps.Near.{Near}
-use Rattle.report.proofs.Backwards.{latest_found}
+use Rattle.report.proofs.Backwards.{missing_by, latest_found}
 use Rattle.report.proofs.Latest.{StandFor, cycle_of, latest_is, activate_is}
 use Rattle.report.proofs.Sheets.{same_gap}
 use Rattle.report.proofs.Sorts.{asks_from, counted}
@@ -69,7 +69,7 @@ by_fourth c text cs gap stand unkept =
     (subst (λ (n : Option ℕ). Told (too_soon n gap c.cycle) (FourApart gap c.cycle (activates cs))) (sym fourth) (told_four gap c.cycle (activates cs) (reverse (activates cs)) refl)) unkept
 
 no_gap : {X : Type 0} (g : Cycles) → None ≡ Some g → X
-no_gap g e = let z : ◌≡◌ {A = ℕ} 0 1 = cc in absurd (omega arith)
+no_gap g e = cc
 
 -- by the rule's own gap, whichever way it is given
 by_gap : (o : Option Command) (t : ℕ) (h g : Cycles) → Some h ≡ Some g → OneNear o h.0 t → OneNear o g.0 t
@@ -125,9 +125,7 @@ lines_stand text line cs h e =
 missing_is : (s : Sheet) (text : List ℕ) (line : ℕ) (rule : Rule) (g : Cycles) (c a : Command) → gap_of s rule ≡ Some g → command_in (line_at text line) ≡ Some c →
     counted_from rule c text line ≡ Some a → c.cycle < a.cycle + g.0 → missing_gap s text line rule ≡ Some (record { earlier = a.cycle; later = c.cycle; needed = g })
 missing_is s text line rule g c a e f d soon =
-    ap (λ (o : Option Cycles). and_then o (λ gap. and_then (command_in (line_at text line)) (λ later. and_then (counted_from rule later text line) (λ earlier. pair_near gap earlier later)))) e
-    ∙ ap (λ (o : Option Command). and_then o (λ later. and_then (counted_from rule later text line) (λ earlier. pair_near g earlier later))) f
-    ∙ ap (λ (o : Option Command). and_then o (λ earlier. pair_near g earlier c)) d
+    sym (missing_by s text line rule g c (Some a) (sym e) (sym f) (sym d))
     ∙ cond-true (ltb c.cycle (a.cycle + g.0)) _ None (lt-ltb c.cycle (a.cycle + g.0) soon)
 
 -- the gap is named at a line that breaks a rule
@@ -161,13 +159,13 @@ named_at s t k text line rule (Some g) e f j =
 
 named_by : (b : Board) (line text : List ℕ) (at : ℕ) (rule : Rule) (answer : Result Board BoardRefusal) → board_told (Ok b) ≡ board_made line → board_told answer ≡ board_made line →
     JudgedBy answer text (Err (Broken at rule)) → Named b.sheet text at rule (missing_gap b.sheet text at rule)
-named_by b line text at rule (Err why) e f j = let z : ◌≡◌ {A = ℕ} 0 1 = cc in absurd (omega arith)
+named_by b line text at rule (Err why) e f j = cc
 named_by b line text at rule (Ok d) e f j = named_at b.sheet d.sheet d.chip text at rule (gap_of b.sheet rule) refl (same_gap d b rule (f ∙ sym e)) j
 
 named_when : (b : Board) (line text : List ℕ) (at : ℕ) (rule : Rule) (long : Bool) → board_told (Ok b) ≡ board_made line →
     MatchBool long (◌≡◌ {A = Result ℕ TextRefusal} (Err (Broken at rule)) (Err TooLong)) ((answer : Result Board BoardRefusal) × (board_told answer ≡ board_made line) × JudgedBy answer text (Err (Broken at rule))) →
     Named b.sheet text at rule (missing_gap b.sheet text at rule)
-named_when b line text at rule true e j = let z : ◌≡◌ {A = ℕ} 0 1 = cc in absurd (omega arith)
+named_when b line text at rule true e j = cc
 named_when b line text at rule false e j = named_by b line text at rule j.0 e j.1 j.2
 
 -- the gap that is told says what the rule needed

@@ -1,17 +1,13 @@
 -- Two boards that are told alike have the same gaps.
-use Rattle.std.proofs.Common.{◌≡◌, ℕ, List, [], Ok, Err, Option, Result, refl, ap, arith}
+use Rattle.std.proofs.Common.{◌≡◌, List, [], Ok, Err, Result, refl, ap}
 use Rattle.sheet.specs.Making.{in_order, Refused}
 use Rattle.sheet.specs.declared.accepted.Sheet.{Sheet}
+use Rattle.sheet.specs.declared.board.Board.{Board}
 use Rattle.sheet.specs.declared.units.Cycles.{Cycles}
 use Rattle.rulebook.specs.declared.rule.Rule.{Rule}
 use Rattle.rulebook.specs.declared.rule.Rule.TheVariants.{CyclesRise, InsideChip, ActivateClosed, PrechargeOpen, ColumnOpen, ActivateActivateSame, ActivateActivateOther, ActivatePrecharge, ActivateColumn, PrechargeActivate, ColumnColumn, ReadWrite, WriteRead, ReadPrecharge, WritePrecharge, FourActivates}
 use Rattle.trace.specs.Board.{Told, board_told}
-use Rattle.trace.specs.Fields.{and_then}
-use Rattle.trace.specs.Line.{command_in}
-use Rattle.trace.specs.Text.{line_at}
-use Rattle.trace.specs.declared.board.Board.{Board}
-use Rattle.trace.specs.declared.board.BoardRefusal.{BoardRefusal}
-use Rattle.report.specs.Gaps.{gap_of, counted_from, pair_near, missing_gap}
+use Rattle.report.specs.Gaps.{gap_of}
 
 -- the sheet's values of a board as it is told
 abbrev values_of : Result Told Refused → List Cycles
@@ -39,10 +35,3 @@ gaps_by s t FourActivates e = cc
 
 pub same_gap : (a b : Board) (rule : Rule) → board_told (Ok a) ≡ board_told (Ok b) → gap_of a.sheet rule ≡ gap_of b.sheet rule
 same_gap a b rule e = gaps_by a.sheet b.sheet rule (ap values_of e)
-
-pub same_missing : (a b : Board) (text : List ℕ) (line : ℕ) (rule : Rule) → board_told (Ok a) ≡ board_told (Ok b) → missing_gap a.sheet text line rule ≡ missing_gap b.sheet text line rule
-same_missing a b text line rule e =
-    ap (λ (g : Option Cycles). and_then g (λ gap. and_then (command_in (line_at text line)) (λ later. and_then (counted_from rule later text line) (λ earlier. pair_near gap earlier later)))) (same_gap a b rule e)
-
-pub no_board : (why : BoardRefusal) (b : Board) → board_told (Err why) ≡ board_told (Ok b) → ⊥
-no_board why b e = let z : ◌≡◌ {A = ℕ} 0 1 = cc in omega arith

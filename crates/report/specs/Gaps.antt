@@ -1,5 +1,5 @@
 -- The two cycles between which a gap is missing, at a line that breaks a gap rule.
-use Rattle.std.specs.Prelude.{◌≡◌, ℕ, zero, suc, ◌+◌, ◌<◌, Bool, false, cond, not, ◌&&◌, List, Some, None, Option, ◌==◌, nat_lt}
+use Rattle.std.specs.Prelude.{◌≡◌, ℕ, zero, suc, ◌+◌, ◌<◌, Bool, false, cond, not, ◌&&◌, List, Some, None, Option, ◌==◌, nat_lt, ◌++◌, codes, decimal}
 use Rattle.sheet.specs.Spans.{read_to_write, write_to_read, write_to_precharge}
 use Rattle.sheet.specs.Units.{cycles}
 use Rattle.sheet.specs.declared.accepted.Sheet.{Sheet}
@@ -152,3 +152,11 @@ pub record TooNear (s : Sheet) (text : List ℕ) (line : ℕ) (rule : Rule) (n :
 abbrev pub Named : Sheet → List ℕ → ℕ → Rule → Option Near → Type 0
 Named s text line rule None = gap_of s rule ≡ None
 Named s text line rule (Some n) = TooNear s text line rule n
+
+-- the two cycles and the gap as they are shown
+abbrev pub gap_words : Near → List ℕ
+gap_words n =
+    codes " (cycle " ++ (decimal n.earlier
+    ++ (codes ", then cycle " ++ (decimal n.later
+    ++ (codes "; " ++ (decimal n.needed.0
+    ++ codes " cycles needed)")))))

@@ -1,77 +1,41 @@
 -- The text that `judge` prints for a sheet line and a trace.
-use Rattle.std.specs.Prelude.{◌≡◌, ℕ, List, ◌++◌, Some, None, Ok, Err, codes, decimal, Option, Result}
-use Rattle.rulebook.specs.Book.{rule_number}
+use Rattle.std.specs.Prelude.{◌≡◌, ℕ, List, [], ◌∷◌, ◌++◌, Some, None, Ok, Err, codes, decimal, Option, Result}
+use Rattle.sheet.specs.declared.board.Board.{Board}
 use Rattle.rulebook.specs.declared.rule.Rule.{Rule}
-use Rattle.rulebook.specs.declared.rule.Rule.TheVariants.{CyclesRise, InsideChip, ActivateClosed, PrechargeOpen, ColumnOpen, ActivateActivateSame, ActivateActivateOther, ActivatePrecharge, ActivateColumn, PrechargeActivate, ColumnColumn, ReadWrite, WriteRead, ReadPrecharge, WritePrecharge, FourActivates}
 use Rattle.trace.specs.Board.{board_told, board_made}
-use Rattle.trace.specs.declared.board.Board.{Board}
+use Rattle.trace.specs.Digits.{digits}
 use Rattle.checker.specs.Judging.{JudgedText}
 use Rattle.checker.specs.Packing.{packed}
+use Rattle.checker.specs.Words.{words_of}
 use Rattle.checker.specs.declared.refusals.TextRefusal.{TextRefusal}
 use Rattle.checker.specs.declared.refusals.TextRefusal.TheVariants.{TooLong, Board as OfBoard, Malformed, Broken}
-use Rattle.report.specs.Gaps.{missing_gap, Named}
-use Rattle.report.specs.Packed.{packed_text}
-use Rattle.report.specs.Sizing.{refused_text, refusal_text}
+use Rattle.report.specs.Gaps.{missing_gap, gap_words, Named}
 use Rattle.report.specs.declared.gaps.Near.{Near}
-
--- what is wrong where a rule is broken
-unfoldable pub sentence : Rule → List ℕ
-sentence CyclesRise = codes "the cycle is not larger than that of the line before"
-sentence InsideChip = codes "the bank, row or column is outside the chip"
-sentence ActivateClosed = codes "an activate goes to a bank that is open"
-sentence PrechargeOpen = codes "a precharge goes to a bank that is closed"
-sentence ColumnOpen = codes "a read or write goes to a bank that is not open at its row"
-sentence ActivateActivateSame = codes "an activate comes too soon after an activate of the same bank"
-sentence ActivateActivateOther = codes "an activate comes too soon after an activate of another bank"
-sentence ActivatePrecharge = codes "a precharge comes too soon after an activate of the same bank"
-sentence ActivateColumn = codes "a read or write comes too soon after an activate of the same bank"
-sentence PrechargeActivate = codes "an activate comes too soon after a precharge of the same bank"
-sentence ColumnColumn = codes "a read comes too soon after a read, or a write after a write"
-sentence ReadWrite = codes "a write comes too soon after a read"
-sentence WriteRead = codes "a read comes too soon after a write"
-sentence ReadPrecharge = codes "a precharge comes too soon after a read of the same bank"
-sentence WritePrecharge = codes "a precharge comes too soon after a write of the same bank"
-sentence FourActivates = codes "a fifth activate comes too soon after the first of the last five"
 
 -- the end of the line for a broken rule: the two cycles and the gap, where one is missing
 abbrev pub near_text : Option Near → List ℕ
 near_text None = codes "\n"
-near_text (Some n) =
-    codes " (cycle " ++ (decimal n.earlier
-    ++ (codes ", then cycle " ++ (decimal n.later
-    ++ (codes "; " ++ (decimal n.needed.0
-    ++ codes " cycles needed)\n")))))
-
--- a line and the number of the rule that it breaks
-abbrev pub rule_text : ℕ → ℕ → List ℕ
-rule_text line number =
-    codes "line " ++ (decimal line
-    ++ (codes " breaks rule " ++ (decimal number
-    ++ codes ": ")))
-
--- a line that breaks a rule, in words
-abbrev pub broken_text : ℕ → Rule → Option Near → List ℕ
-broken_text line rule near = rule_text line (rule_number rule) ++ sentence rule ++ near_text near
+near_text (Some n) = gap_words n ++ codes "\n"
 
 -- a trace that passes
 abbrev pub passes_text : ℕ → List ℕ
 passes_text count = codes "passes: " ++ (decimal count ++ codes " commands\n")
 
--- a line that is malformed
-abbrev pub malformed_text : ℕ → List ℕ
-malformed_text line = codes "refused 16 at line " ++ (decimal line ++ codes "\n")
-
 -- a trace that does not pass
 abbrev pub against_text : TextRefusal → Option Near → List ℕ
-against_text TooLong near = refused_text 19 None
-against_text (OfBoard why) near = refusal_text why
-against_text (Malformed line) near = malformed_text line
-against_text (Broken line rule) near = broken_text line rule near
+against_text TooLong near = words_of TooLong ++ codes "\n"
+against_text (OfBoard why) near = words_of (OfBoard why) ++ codes "\n"
+against_text (Malformed line) near = words_of (Malformed line) ++ codes "\n"
+against_text (Broken line rule) near = words_of (Broken line rule) ++ near_text near
 
 -- the line for people
 abbrev pub people_text : Result ℕ TextRefusal → Option Near → List ℕ
 people_text (Ok count) near = passes_text count
 people_text (Err why) near = against_text why near
+
+-- a number's last 16 digits, the highest first, and a line feed
+abbrev pub packed_text : ℕ → List ℕ
+packed_text n = digits 16 n ++ 10 ∷ []
 
 -- the line for people, and the packed answer as the last line
 abbrev pub told_text : Result ℕ TextRefusal → Option Near → List ℕ

@@ -1,5 +1,4 @@
 -- What the contracts of this crate cite.
 pub mod Gaps
 pub mod Judging
-pub mod Packed
 pub mod Sizing

@@ -1,44 +1,29 @@
 -- The text that `sizing` prints for a sheet line.
-use Rattle.std.specs.Prelude.{◌≡◌, ℕ, List, ◌++◌, Some, None, Ok, Err, codes, decimal, Option, Result}
-use Rattle.sheet.specs.declared.accepted.Sheet.{Sheet}
-use Rattle.sheet.specs.declared.geometry.Chip.{Chip}
+use Rattle.std.specs.Prelude.{◌≡◌, ℕ, List, ◌++◌, Ok, Err, codes, decimal, Result}
 use Rattle.sheet.specs.Spans.{to_precharge, to_activate, to_column, span}
-use Rattle.trace.specs.Board.{board_number, board_place, board_told, board_made}
-use Rattle.trace.specs.declared.board.Board.{Board}
+use Rattle.sheet.specs.declared.accepted.Sheet.{Sheet}
+use Rattle.sheet.specs.declared.board.Board.{Board}
+use Rattle.sheet.specs.declared.geometry.Chip.{Chip}
+use Rattle.trace.specs.Board.{refusal_text, board_told, board_made}
 use Rattle.trace.specs.declared.board.BoardRefusal.{BoardRefusal}
 
--- the timings of one bank: from an activate, and from a precharge
-abbrev pub bank_timings_text : Sheet → List ℕ
-bank_timings_text s =
+-- one line a timing in the order of a sheet
+abbrev pub timings_text : Sheet → List ℕ
+timings_text s =
     codes "tRCD " ++ (decimal s.rcd.0
     ++ (codes "\ntRP " ++ (decimal s.rp.0
     ++ (codes "\ntRAS " ++ (decimal s.ras.0
     ++ (codes "\ntRC " ++ (decimal s.rc.0
-    ++ codes "\n")))))))
-
--- the timings between activates of any banks
-abbrev pub activate_timings_text : Sheet → List ℕ
-activate_timings_text s =
-    codes "tRRD " ++ (decimal s.rrd.0
+    ++ (codes "\ntRRD " ++ (decimal s.rrd.0
     ++ (codes "\ntFAW " ++ (decimal s.faw.0
-    ++ codes "\n")))
-
--- the timings from reads and writes
-abbrev pub column_timings_text : Sheet → List ℕ
-column_timings_text s =
-    codes "tCCD " ++ (decimal s.ccd.0
+    ++ (codes "\ntCCD " ++ (decimal s.ccd.0
     ++ (codes "\ntRTP " ++ (decimal s.rtp.0
     ++ (codes "\ntWR " ++ (decimal s.wr.0
     ++ (codes "\ntWTR " ++ (decimal s.wtr.0
-    ++ codes "\n")))))))
-
--- the timings of the data: the latencies and the burst
-abbrev pub data_timings_text : Sheet → List ℕ
-data_timings_text s =
-    codes "RL " ++ (decimal s.rl.0
+    ++ (codes "\nRL " ++ (decimal s.rl.0
     ++ (codes "\nWL " ++ (decimal s.wl.0
     ++ (codes "\nBURST " ++ (decimal s.burst.0
-    ++ codes "\n")))))
+    ++ codes "\n")))))))))))))))))))))))))
 
 -- the stretches and the span
 abbrev pub stretches_text : Sheet → Chip → List ℕ
@@ -49,22 +34,14 @@ stretches_text s k =
     ++ (codes "\nspan " ++ (decimal (span s k)
     ++ codes "\n")))))))
 
--- a refusal with its place, if it carries one
-abbrev pub refused_text : ℕ → Option ℕ → List ℕ
-refused_text number None = codes "refused " ++ (decimal number ++ codes "\n")
-refused_text number (Some place) = codes "refused " ++ (decimal number ++ (codes " at " ++ (decimal place ++ codes "\n")))
-
-abbrev pub refusal_text : BoardRefusal → List ℕ
-refusal_text why = refused_text (board_number why) (board_place why)
-
--- one line a timing in the order of a sheet, then the stretches and the span
+-- the timings, then the stretches and the span
 abbrev pub board_text : Sheet → Chip → List ℕ
-board_text s k = bank_timings_text s ++ activate_timings_text s ++ column_timings_text s ++ data_timings_text s ++ stretches_text s k
+board_text s k = timings_text s ++ stretches_text s k
 
 -- the text for an answer to a sheet line
 abbrev pub answer_text : Result Board BoardRefusal → List ℕ
 answer_text (Ok b) = board_text b.sheet b.chip
-answer_text (Err why) = refusal_text why
+answer_text (Err why) = refusal_text why ++ codes "\n"
 
 -- the text is that of the sheet and the chip that the line gives, or of the refusal that is due
 abbrev pub SizedUp : List ℕ → List ℕ → Type 0

@@ -1,12 +1,14 @@
 // The two cycles between which a gap is missing, at a line that breaks a gap rule.
-ghost use Rattle.std.specs.Prelude.{◌≡◌};
-ghost use Rattle.rulebook.specs.Kinds.{same_kind};
-ghost use Rattle.report.specs.Gaps.{gap_of, is_at, is_elsewhere, counts_from, passed_over, such_in, counted_from, pair_near, missing_gap};
+ghost use Rattle.std.specs.Prelude.{◌≡◌, Some};
+ghost use Rattle.trace.specs.Text.{line_count};
+ghost use Rattle.report.specs.Gaps.{gap_of, is_at, counts_from, passed_over, such_in, counted_from, pair_near, missing_gap, gap_words};
 
 use rulebook::command::{Command, Kind};
+use rulebook::gap::too_soon;
 use rulebook::rule::Rule;
 use sheet::{Cycles, Sheet};
-use trace::cutting::line_at;
+use std::fmt;
+use trace::cutting::{LINE, line_at};
 use trace::line::read_line;
 
 // The cycles of an earlier and a later command, and the gap that was needed between them.
@@ -17,13 +19,30 @@ pub(crate) struct Near {
     pub(crate) needed: Cycles,
 }
 
+// They are shown behind the rule that is broken.
+impl fmt::Display for Near {
+    ghost output = { λ n. Some (gap_words n) };
+
+    fn fmt<W: fmt::Write>(&self, f: &mut fmt::Formatter<W>) -> fmt::Result {
+        let Near {
+            earlier,
+            later,
+            needed,
+        } = *self;
+        write!(
+            f,
+            " (cycle {earlier}, then cycle {later}; {needed} cycles needed)"
+        )
+    }
+}
+
 // The gap that is missing at a line that breaks a rule; none where the rule is no gap rule.
 pub(crate) fn missing_gap(sheet: &Sheet, text: &[u8], line: usize, rule: Rule) -> Option<Near>
     ensures { result ≡ missing_gap sheet.now text.now line rule }
 {
     let needed = gap_of(sheet, rule)?;
     let later = read_line(line_at(text, line))?;
-    let earlier = counted_from(rule, later, text, line)?;
+    let earlier = counted_from(rule, later, &text[..LINE * line])?;
     pair_near(needed, earlier, later)
 }
 
@@ -31,47 +50,33 @@ pub(crate) fn missing_gap(sheet: &Sheet, text: &[u8], line: usize, rule: Rule) -
 fn pair_near(needed: Cycles, earlier: Command, later: Command) -> Option<Near>
     ensures { result ≡ pair_near needed earlier later }
 {
-    if u64::from(later.cycle) < u64::from(earlier.cycle) + u64::from(needed.count()) {
-        Some(Near {
-            earlier: earlier.cycle,
-            later: later.cycle,
-            needed,
-        })
-    } else {
-        None
-    }
+    too_soon(Some(earlier.cycle), needed, later.cycle).then_some(Near {
+        earlier: earlier.cycle,
+        later: later.cycle,
+        needed,
+    })
 }
 
-// The command from which the rule counts its gap to the later one. It is looked for from the line backwards, and nothing is kept but how many are still to be passed over.
-fn counted_from(rule: Rule, later: Command, text: &[u8], line: usize) -> Option<Command>
-    ensures { result ≡ counted_from rule later text.now line }
+// The command from which the rule counts its gap to the later one. It is looked for backwards in the text before that one.
+fn counted_from(rule: Rule, later: Command, before: &[u8]) -> Option<Command>
+    ensures { result ≡ counted_from rule later before.now (line_count before.now) }
 {
-    let mut over = passed_over(rule);
-    for at in (0..line).rev() {
-        if let Some(earlier) = such_in(rule, later, line_at(text, at)) {
-            if over == 0 {
-                return Some(earlier);
-            }
-            over -= 1;
-        }
-    }
-    None
+    before
+        .chunks(LINE)
+        .rev()
+        .filter_map(|line| such_in(rule, later, line))
+        .nth(passed_over(rule))
 }
 
 // The command of a line, if the rule counts from it.
 fn such_in(rule: Rule, later: Command, line: &[u8]) -> Option<Command>
     ensures { result ≡ such_in (counts_from rule later) line.now }
 {
-    let earlier = read_line(line)?;
-    if counts_from(rule, later, earlier) {
-        Some(earlier)
-    } else {
-        None
-    }
+    read_line(line).filter(|earlier| counts_from(rule, later, *earlier))
 }
 
 // How many commands of its sort a rule passes over: rule 16 counts from the fourth activate back.
-fn passed_over(rule: Rule) -> u8
+fn passed_over(rule: Rule) -> usize
     ensures { result ≡ passed_over rule }
 {
     match rule {
@@ -88,16 +93,18 @@ fn counts_from(rule: Rule, later: Command, earlier: Command) -> bool
         Rule::CyclesRise | Rule::InsideChip => false,
         Rule::ActivateClosed | Rule::PrechargeOpen | Rule::ColumnOpen => false,
         Rule::ActivateActivateSame => is_at(Kind::Activate, later.bank, earlier),
-        Rule::ActivateActivateOther => is_elsewhere(Kind::Activate, later.bank, earlier),
+        Rule::ActivateActivateOther => {
+            earlier.kind == Kind::Activate && earlier.bank != later.bank
+        }
         Rule::ActivatePrecharge => is_at(Kind::Activate, later.bank, earlier),
         Rule::ActivateColumn => is_at(Kind::Activate, later.bank, earlier),
         Rule::PrechargeActivate => is_at(Kind::Precharge, later.bank, earlier),
-        Rule::ColumnColumn => same_kind(earlier.kind, later.kind),
-        Rule::ReadWrite => same_kind(earlier.kind, Kind::Read),
-        Rule::WriteRead => same_kind(earlier.kind, Kind::Write),
+        Rule::ColumnColumn => earlier.kind == later.kind,
+        Rule::ReadWrite => earlier.kind == Kind::Read,
+        Rule::WriteRead => earlier.kind == Kind::Write,
         Rule::ReadPrecharge => is_at(Kind::Read, later.bank, earlier),
         Rule::WritePrecharge => is_at(Kind::Write, later.bank, earlier),
-        Rule::FourActivates => same_kind(earlier.kind, Kind::Activate),
+        Rule::FourActivates => earlier.kind == Kind::Activate,
     }
 }
 
@@ -105,23 +112,10 @@ fn counts_from(rule: Rule, later: Command, earlier: Command) -> bool
 fn is_at(kind: Kind, bank: u8, command: Command) -> bool
     ensures { result ≡ is_at kind bank command }
 {
-    same_kind(command.kind, kind) && command.bank == bank
+    command.kind == kind && command.bank == bank
 }
 
-// Whether the command is of the kind and goes to another bank.
-fn is_elsewhere(kind: Kind, bank: u8, command: Command) -> bool
-    ensures { result ≡ is_elsewhere kind bank command }
-{
-    same_kind(command.kind, kind) && command.bank != bank
-}
-
-fn same_kind(one: Kind, other: Kind) -> bool
-    ensures { result ≡ same_kind one other }
-{
-    one.number() == other.number()
-}
-
-// The gap that the rule asks for, if it is a gap rule.
+// The gap that the rule asks for, if it is a gap rule; the rule book tests these gaps in passing, here they are named. A match and no table, here and above: the check sees that no rule is left out.
 fn gap_of(sheet: &Sheet, rule: Rule) -> Option<Cycles>
     ensures { result ≡ gap_of sheet.now rule }
 {

@@ -3,5 +3,4 @@
 
 mod gaps; // the two cycles between which a gap is missing
 pub mod judging; // what is found of a trace, with the packed answer
-mod packed; // a number as digits, for the packed answer
 pub mod sizing; // the timings of a sheet line in cycles, the stretches and the span

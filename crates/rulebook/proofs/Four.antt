@@ -18,10 +18,10 @@ few gap t acts back e no_four old a₁ a₂ a₃ a₄ whole =
     absurd (no_four a₁ a₂ a₃ a₄ (reverse old) (e ∙ ap reverse whole ∙ reverse-append old (a₁ ∷ a₂ ∷ a₃ ∷ a₄ ∷ [])))
 
 pub told_four : (gap t : ℕ) (acts back : List Command) → back ≡ reverse acts → Told (too_soon (cycle_at 3 back) gap t) (FourApart gap t acts)
-told_four gap t acts [] e = few gap t acts [] e (λ a₁ a₂ a₃ a₄ rest q. let z : ◌≡◌ {A = ℕ} 0 1 = cc in omega arith)
-told_four gap t acts (x₄ ∷ []) e = few gap t acts (x₄ ∷ []) e (λ a₁ a₂ a₃ a₄ rest q. let z : ◌≡◌ {A = ℕ} 0 1 = cc in omega arith)
-told_four gap t acts (x₄ ∷ x₃ ∷ []) e = few gap t acts (x₄ ∷ x₃ ∷ []) e (λ a₁ a₂ a₃ a₄ rest q. let z : ◌≡◌ {A = ℕ} 0 1 = cc in omega arith)
-told_four gap t acts (x₄ ∷ x₃ ∷ x₂ ∷ []) e = few gap t acts (x₄ ∷ x₃ ∷ x₂ ∷ []) e (λ a₁ a₂ a₃ a₄ rest q. let z : ◌≡◌ {A = ℕ} 0 1 = cc in omega arith)
+told_four gap t acts [] e = few gap t acts [] e (λ a₁ a₂ a₃ a₄ rest q. cc)
+told_four gap t acts (x₄ ∷ []) e = few gap t acts (x₄ ∷ []) e (λ a₁ a₂ a₃ a₄ rest q. cc)
+told_four gap t acts (x₄ ∷ x₃ ∷ []) e = few gap t acts (x₄ ∷ x₃ ∷ []) e (λ a₁ a₂ a₃ a₄ rest q. cc)
+told_four gap t acts (x₄ ∷ x₃ ∷ x₂ ∷ []) e = few gap t acts (x₄ ∷ x₃ ∷ x₂ ∷ []) e (λ a₁ a₂ a₃ a₄ rest q. cc)
 told_four gap t acts (x₄ ∷ x₃ ∷ x₂ ∷ x₁ ∷ rest) e =
     told_by (ltb t (x₁.cycle + gap))
     (λ y all. omega (

@@ -84,7 +84,7 @@ pub precharge_in_time : PrechargeInTime
 precharge_in_time s k h c t kind inside is_open all reached =
     lawful_after s k h c t inside all (omega (arith, s.ras_in, (three s.ras.0 s.rtp.0 (write_to_precharge s)).0))
     (record {
-      to_open = λ d. absurd (let z : ◌≡◌ {A = ℕ} 0 1 = cc in omega arith);
+      to_open = λ d. cc;
       to_close = λ d. (is_open, reached);
       to_move = λ d. absurd (subst Column kind d);
     })
@@ -94,7 +94,7 @@ activate_in_time s k h c t kind inside closed all reached =
     lawful_after s k h c t inside all (omega (arith, s.rp_in, (four s.rp.0 s.rc.0 s.rrd.0 s.faw.0).0))
     (record {
       to_open = λ d. (closed, reached);
-      to_close = λ d. absurd (let z : ◌≡◌ {A = ℕ} 0 1 = cc in omega arith);
+      to_close = λ d. cc;
       to_move = λ d. absurd (subst Column kind d);
     })
 

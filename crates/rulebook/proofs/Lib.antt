@@ -9,3 +9,4 @@ pub mod Recorded
 pub mod Tested
 pub mod Judged
 pub mod Lawful
+pub mod Answered

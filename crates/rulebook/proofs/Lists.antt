@@ -1,5 +1,5 @@
--- Every command of a list is such: parts of a list, and lists that grow at their end.
-use Rattle.std.proofs.Common.{◌≡◌, ℕ, ◌⊎◌, List, [], ◌∷◌, ◌++◌, refl, ap, inl, inr, arith}
+-- Every command of a list is such: parts of a list, and lists that grow at their end or are cut.
+use Rattle.std.proofs.Common.{◌≡◌, ◌⊎◌, List, [], ◌∷◌, ◌++◌, refl, ap, inl, inr}
 use Rattle.rulebook.specs.declared.command.Command.{Command}
 use Rattle.rulebook.specs.Book.{Every}
 
@@ -54,21 +54,21 @@ first_or_every P Q f (x ∷ xs) = elim (f x) [
   ]
 ]
 
--- the empty list holds no command
-pub no_command : (xs : List Command) (c : Command) (ys : List Command) → [] ≡ xs ++ (c ∷ ys) → ⊥
-no_command [] c ys e = let z : ◌≡◌ {A = ℕ} 0 1 = cc in omega arith
-no_command (x ∷ xs) c ys e = let z : ◌≡◌ {A = ℕ} 0 1 = cc in omega arith
+-- the empty list holds nothing
+pub no_element : {X : Type 0} (xs : List X) (y : X) (ys : List X) → [] ≡ xs ++ (y ∷ ys) → ⊥
+no_element [] y ys e = cc
+no_element (x ∷ xs) y ys e = cc
 
--- a list with one more command at its end, cut before a command: at that last one, or inside the list
-pub last_cut : (xs : List Command) (c : Command) (before : List Command) (d : Command) (rest : List Command) → xs ++ (c ∷ []) ≡ before ++ (d ∷ rest) →
-    ((xs ≡ before) × (c ≡ d)) ⊎ ((more : List Command) × (xs ≡ before ++ (d ∷ more)))
-last_cut [] c [] d rest e = inl (refl, cc)
-last_cut [] c (b ∷ before) d rest e = absurd (no_command before d rest (cc))
-last_cut (x ∷ xs) c [] d rest e = inr (xs, cc)
-last_cut (x ∷ xs) c (b ∷ before) d rest e =
-    let h : x ≡ b = cc in
-    let t : xs ++ (c ∷ []) ≡ before ++ (d ∷ rest) = cc in
-    elim (last_cut xs c before d rest t) [
+-- a list with one more at its end, cut before an element: at that last one, or inside the list
+pub last_cut : {X : Type 0} (xs : List X) (x : X) (before : List X) (y : X) (rest : List X) → xs ++ (x ∷ []) ≡ before ++ (y ∷ rest) →
+    ((xs ≡ before) × (x ≡ y)) ⊎ ((more : List X) × (xs ≡ before ++ (y ∷ more)))
+last_cut [] x [] y rest e = inl (refl, cc)
+last_cut [] x (b ∷ before) y rest e = absurd (no_element before y rest (cc))
+last_cut (a ∷ xs) x [] y rest e = inr (xs, cc)
+last_cut (a ∷ xs) x (b ∷ before) y rest e =
+    let h : a ≡ b = cc in
+    let t : xs ++ (x ∷ []) ≡ before ++ (y ∷ rest) = cc in
+    elim (last_cut xs x before y rest t) [
       | inl p ↦ let q = p.0 in inl (cc, p.1)
       | inr p ↦ let q = p.1 in inr (p.0, cc)
     ]

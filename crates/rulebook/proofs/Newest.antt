@@ -1,5 +1,5 @@
 -- The last activate of a history that obeys is the latest, since cycles rise.
-use Rattle.std.proofs.Common.{◌≡◌, ℕ, ◌<◌, ◌≤◌, Bool, true, false, cond, List, [], ◌∷◌, ◌++◌, reverse, Some, sym, refl, ap, ◌∙◌, subst, arith}
+use Rattle.std.proofs.Common.{◌≡◌, ◌<◌, ◌≤◌, Bool, true, false, cond, List, [], ◌∷◌, ◌++◌, reverse, Some, sym, refl, ap, ◌∙◌, subst, arith}
 use mathlib.Core.List.{reverse-reverse, reverse-cons}
 use Rattle.sheet.specs.declared.accepted.Sheet.{Sheet}
 use Rattle.sheet.specs.declared.geometry.Chip.{Chip}
@@ -9,7 +9,7 @@ use Rattle.rulebook.specs.declared.rule.Rule.TheVariants.{CyclesRise}
 use Rattle.rulebook.specs.Kinds.{same_kind}
 use Rattle.rulebook.specs.Book.{Every, Of, activates, Obeys}
 use Rattle.rulebook.specs.Summary.{Latest, cycle_at}
-use Rattle.rulebook.proofs.Lists.{every_map, every_join, every_at, no_command}
+use Rattle.rulebook.proofs.Lists.{every_map, every_join, every_at, no_element}
 use Rattle.rulebook.proofs.Told.{Asks, asks_kind}
 
 -- no activate among some commands
@@ -18,7 +18,7 @@ NoneActive h = Every (λ a. Of Activate a → ⊥) h
 
 none_at : (b : Bool) (y : Command) (ys : List Command) → Asks b (Of Activate y) → cond b (y ∷ activates ys) (activates ys) ≡ [] →
     (activates ys ≡ [] → NoneActive ys) → NoneActive (y ∷ ys)
-none_at true y ys is e rest = absurd (let z : ◌≡◌ {A = ℕ} 0 1 = cc in omega arith)
+none_at true y ys is e rest = cc
 none_at false y ys is_not e rest = (is_not, rest e)
 
 none_active : (h : List Command) → activates h ≡ [] → NoneActive h
@@ -52,7 +52,7 @@ last_at true x y ys (f ∷ fs) is e further = one_earlier x y ys (further fs (cc
 last_at false x y ys front is_not e further = one_earlier x y ys (further front e)
 
 last_active : (h front : List Command) (x : Command) → activates h ≡ front ++ (x ∷ []) → LastActive x h
-last_active [] front x e = absurd (no_command front x [] e)
+last_active [] front x e = absurd (no_element front x [] e)
 last_active (y ∷ ys) front x e = last_at (same_kind y.kind Activate) x y ys front (asks_kind y.kind Activate) e (λ to q. last_active ys to x q)
 
 latest_at : (s : Sheet) (k : Chip) (before : List Command) (x : Command) (rest : List Command) → Obeys s k (before ++ (x ∷ rest)) → Of Activate x → NoneActive rest →

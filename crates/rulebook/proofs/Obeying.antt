@@ -5,10 +5,10 @@ use Rattle.sheet.specs.declared.geometry.Chip.{Chip}
 use Rattle.rulebook.specs.declared.command.Command.{Command}
 use Rattle.rulebook.specs.declared.rule.Rule.TheVariants.{CyclesRise}
 use Rattle.rulebook.specs.Book.{Every, Holds, Lawful, Obeys}
-use Rattle.rulebook.proofs.Lists.{every_cut, every_at, no_command, last_cut}
+use Rattle.rulebook.proofs.Lists.{every_cut, every_at, no_element, last_cut}
 
 pub nothing_obeys : (s : Sheet) (k : Chip) → Obeys s k []
-nothing_obeys s k before c rest e r = absurd (no_command before c rest e)
+nothing_obeys s k before c rest e r = absurd (no_element before c rest e)
 
 pub front_obeys : (s : Sheet) (k : Chip) (xs ys : List Command) → Obeys s k (xs ++ ys) → Obeys s k xs
 front_obeys s k xs ys obeys before c rest e =

@@ -29,11 +29,11 @@ latest_more P h c false (Some e) not_so rises l = (
 )
 
 -- the open row of each bank
-opened_more : (i : ℕ) (was : Option ℕ) (h : List Command) (c : Command) → opened_from i was (h ++ (c ∷ [])) ≡ opened_by i (opened_from i was h) c
+pub opened_more : (i : ℕ) (was : Option ℕ) (h : List Command) (c : Command) → opened_from i was (h ++ (c ∷ [])) ≡ opened_by i (opened_from i was h) c
 opened_more i was [] c = refl
 opened_more i was (x ∷ xs) c = opened_more i (opened_by i was x) xs c
 
-opened_here : (i : ℕ) (was : Option ℕ) (c : Command) → c.bank ≡ i → opened_by i was c ≡ row_after c.kind c.row was
+pub opened_here : (i : ℕ) (was : Option ℕ) (c : Command) → c.bank ≡ i → opened_by i was c ≡ row_after c.kind c.row was
 opened_here i was c here = ap (λ (b : Bool). cond b (row_after c.kind c.row was) was) (eq-eqb c.bank i here)
 
 opened_there : (i : ℕ) (was : Option ℕ) (c : Command) → c.bank ≢ i → opened_by i was c ≡ was
@@ -70,7 +70,7 @@ one_join : (b : Bool) (x : Command) (xs ys zs : List Command) → zs ≡ xs ++ y
 one_join true x xs ys zs e = ap (λ (l : List Command). x ∷ l) e
 one_join false x xs ys zs e = e
 
-activates_more : (h : List Command) (c : Command) → activates (h ++ (c ∷ [])) ≡ activates h ++ activates (c ∷ [])
+pub activates_more : (h : List Command) (c : Command) → activates (h ++ (c ∷ [])) ≡ activates h ++ activates (c ∷ [])
 activates_more [] c = refl
 activates_more (x ∷ xs) c = one_join (same_kind x.kind Activate) x (activates xs) (activates (c ∷ [])) (activates (xs ++ (c ∷ []))) (activates_more xs c)
 

@@ -52,18 +52,18 @@ told_gap P h (Some e) gap cycle l =
 -- the same bank open or closed, in the record and after the history
 pub told_closed : (o p : Option ℕ) → o ≡ p → Told (is_some o) (p ≡ None)
 told_closed None p e = sym e
-told_closed (Some r) p e = λ q. let z : ◌≡◌ {A = ℕ} 0 1 = cc in omega arith
+told_closed (Some r) p e = λ q. cc
 
 pub told_open : (o p : Option ℕ) → o ≡ p → Told (not (is_some o)) (p ≢ None)
 told_open None p e = λ f. f (sym e)
-told_open (Some r) p e = λ q. let z : ◌≡◌ {A = ℕ} 0 1 = cc in omega arith
+told_open (Some r) p e = λ q. cc
 
 told_not : (b : Bool) {P : Type 0} → (b ≡ true → P) → (b ≡ false → P → ⊥) → Told (not b) P
 told_not true f g = f refl
 told_not false f g = g refl
 
 pub told_open_at : (o p : Option ℕ) (row : ℕ) → o ≡ p → Told (not (open_at o row)) (p ≡ Some row)
-told_open_at None p row e = λ q. let z : ◌≡◌ {A = ℕ} 0 1 = cc in omega arith
+told_open_at None p row e = λ q. cc
 told_open_at (Some r) p row e = told_not (eqb r row) (λ y. let q = eqb-true r row y in cc) (λ y f. eqb-false r row y (cc))
 
 -- three sizes, one of which is passed, or none

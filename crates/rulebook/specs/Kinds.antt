@@ -1,6 +1,7 @@
 -- The kinds of command by number.
-use Rattle.std.specs.Prelude.{ℕ, Bool, cond, Some, None, Option, ◌==◌}
+use Rattle.std.specs.Prelude.{◌≡◌, ℕ, ◌<◌, Bool, cond, Some, None, Option, Result, MatchResult, ◌==◌}
 use Rattle.rulebook.specs.declared.command.Kind.{Kind}
+use Rattle.rulebook.specs.declared.command.UnknownKind.{UnknownKind}
 use Rattle.rulebook.specs.declared.command.Kind.TheVariants.{Idle, Activate, Precharge, Read, Write}
 
 -- the number that stands for a kind in a trace
@@ -19,6 +20,13 @@ kind_of n =
     cond (n == 2) (Some Precharge) (
     cond (n == 3) (Some Read) (
     cond (n == 4) (Some Write) None))))
+
+-- the kind that a number stands for, or an error with the number, for which no kind stands
+abbrev pub Decodes : ℕ → Result Kind UnknownKind → Type 0
+Decodes n r =
+    MatchResult r
+    (λ d. (kind_of n ≡ Some d) × (kind_number d ≡ n))
+    (λ e. (kind_of n ≡ None) × (4 < n) × (e.0 ≡ n))
 
 -- two kinds are the same
 abbrev pub same_kind : Kind → Kind → Bool

@@ -5,3 +5,4 @@ pub mod Record
 pub mod Answer
 pub mod Summary
 pub mod Laws
+pub mod Sentences

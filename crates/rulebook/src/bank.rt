@@ -1,11 +1,11 @@
 // What is kept of one bank, and of the last four activates of the chip. What never happened is absent.
 ghost use Rattle.std.specs.Prelude.{◌≡◌};
-ghost use Rattle.rulebook.specs.Record.{bank_after, recent_with, no_bank, no_recent};
+ghost use Rattle.rulebook.specs.Record.{bank_after, recent_with};
 
 use crate::command::{Command, Kind};
 
-// The row at which a bank is open, and the cycles of its latest activate, precharge, read and write.
-#[derive(Clone, Copy)]
+// The row at which a bank is open, and the cycles of its latest activate, precharge, read and write. Its default is a closed bank to which nothing was ever sent.
+#[derive(Clone, Copy, Debug, Default, PartialEq, Eq)]
 pub struct BankRecord {
     pub open_row: Option<u16>,
     pub activate: Option<u32>,
@@ -15,19 +15,6 @@ pub struct BankRecord {
 }
 
 impl BankRecord {
-    // A closed bank to which nothing was ever sent.
-    pub fn new() -> BankRecord
-        ensures { result ≡ no_bank }
-    {
-        BankRecord {
-            open_row: None,
-            activate: None,
-            precharge: None,
-            read: None,
-            write: None,
-        }
-    }
-
     // Notes a command that was sent to the bank.
     pub fn note(&mut self, command: Command)
         ensures { self.new ≡ bank_after self.old command }
@@ -48,8 +35,9 @@ impl BankRecord {
     }
 }
 
-// The cycles of the last four activates, the newest first.
-#[derive(Clone, Copy)]
+// The cycles of the last four activates, the newest first; by default none.
+// Four names and no array: the rules speak of the newest and the fourth, and a fixed shift suits the logic that is generated.
+#[derive(Clone, Copy, Debug, Default, PartialEq, Eq)]
 pub struct Recent {
     pub newest: Option<u32>,
     pub second: Option<u32>,
@@ -58,18 +46,6 @@ pub struct Recent {
 }
 
 impl Recent {
-    // No activate yet.
-    pub fn new() -> Recent
-        ensures { result ≡ no_recent }
-    {
-        Recent {
-            newest: None,
-            second: None,
-            third: None,
-            fourth: None,
-        }
-    }
-
     // Notes one more activate, and lets the oldest of the four go.
     pub fn note(&mut self, cycle: u32)
         ensures { self.new ≡ recent_with self.old cycle }

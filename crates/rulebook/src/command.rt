@@ -1,19 +1,20 @@
 // What is sent to the chip.
-ghost use Rattle.std.specs.Prelude.{◌≡◌, ◌<◌, Some, MatchOption};
-ghost use Rattle.rulebook.specs.Kinds.{kind_number, kind_of};
+ghost use Rattle.std.specs.Prelude.{◌≡◌, Some};
+ghost use Rattle.rulebook.specs.Kinds.{kind_number, kind_of, Decodes};
 
 // The kinds of command. A read or a write is a column command. Idle stands in a trace for a cycle in which nothing is sent.
-#[derive(Clone, Copy)]
+#[derive(Clone, Copy, Debug, Default, PartialEq, Eq)]
 pub enum Kind {
-    Idle,
-    Activate,
-    Precharge,
-    Read,
-    Write,
+    #[default]
+    Idle = 0,
+    Activate = 1,
+    Precharge = 2,
+    Read = 3,
+    Write = 4,
 }
 
 // One command: its cycle and kind, the place that it names, and the request that it serves.
-#[derive(Clone, Copy)]
+#[derive(Clone, Copy, Debug, Default, PartialEq, Eq)]
 pub struct Command {
     pub cycle: u32,
     pub kind: Kind,
@@ -24,33 +25,34 @@ pub struct Command {
     pub number: u32,
 }
 
+// A number for which no kind stands.
+#[derive(Clone, Copy, Debug, PartialEq, Eq)]
+pub struct UnknownKind(pub u8);
+
 impl Kind {
-    // The number that stands for the kind in a trace.
+    // The number that stands for the kind in a trace. It has a name and is no `From`: `u8::from` would not say where it stands.
     pub fn number(self) -> u8
         ensures value { result ≡ kind_number self }
         ensures back { kind_of result ≡ Some self }
     {
-        match self {
-            Kind::Idle => 0,
-            Kind::Activate => 1,
-            Kind::Precharge => 2,
-            Kind::Read => 3,
-            Kind::Write => 4,
-        }
+        self as u8
     }
+}
 
-    // The kind that the number stands for, if there is one.
-    pub fn from_number(value: u8) -> Option<Kind>
-        ensures kind { result ≡ kind_of value }
-        ensures back { MatchOption result (4 < value) (λ d. kind_number d ≡ value) }
-    {
+// The kind that the number stands for, if there is one.
+impl TryFrom<u8> for Kind {
+    type Error = UnknownKind;
+
+    ghost try_from_gives = { Decodes };
+
+    fn try_from(value: u8) -> Result<Kind, UnknownKind> {
         match value {
-            0 => Some(Kind::Idle),
-            1 => Some(Kind::Activate),
-            2 => Some(Kind::Precharge),
-            3 => Some(Kind::Read),
-            4 => Some(Kind::Write),
-            _ => None,
+            0 => Ok(Kind::Idle),
+            1 => Ok(Kind::Activate),
+            2 => Ok(Kind::Precharge),
+            3 => Ok(Kind::Read),
+            4 => Ok(Kind::Write),
+            _ => Err(UnknownKind(value)),
         }
     }
 }

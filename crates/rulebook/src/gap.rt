@@ -8,18 +8,12 @@ use sheet::Cycles;
 pub fn too_soon(earlier: Option<u32>, gap: Cycles, cycle: u32) -> bool
     ensures { result ≡ too_soon earlier gap.0 cycle }
 {
-    match earlier {
-        Some(e) => u64::from(cycle) < u64::from(e) + u64::from(gap.count()),
-        None => false,
-    }
+    earlier.is_some_and(|first| u64::from(cycle) < u64::from(first) + u64::from(gap.count()))
 }
 
 // The newest activate of all, unless it is the one of the bank itself.
 pub fn newest_elsewhere(newest: Option<u32>, own: Option<u32>) -> Option<u32>
     ensures { result ≡ newest_elsewhere newest own }
 {
-    match (newest, own) {
-        (Some(cycle), Some(last)) if cycle == last => None,
-        _ => newest,
-    }
+    newest.filter(|cycle| own != Some(*cycle))
 }

@@ -1,66 +1,92 @@
 // The rules by name and number.
-ghost use Rattle.std.specs.Prelude.{◌≡◌};
+ghost use Rattle.std.specs.Prelude.{◌≡◌, Some};
 ghost use Rattle.rulebook.specs.Book.{rule_number};
+ghost use Rattle.rulebook.specs.Sentences.{sentence};
 
-// The sixteen rules in order; the number of a rule is its place, from 1.
-#[derive(Clone, Copy)]
+use std::fmt;
+
+// The sixteen rules in order; each with its number.
+#[derive(Clone, Copy, Debug, PartialEq, Eq)]
 pub enum Rule {
     // Cycles rise strictly.
-    CyclesRise,
+    CyclesRise = 1,
     // Bank, row and column are inside the chip.
-    InsideChip,
+    InsideChip = 2,
     // An activate goes to a closed bank.
-    ActivateClosed,
+    ActivateClosed = 3,
     // A precharge goes to an open bank.
-    PrechargeOpen,
+    PrechargeOpen = 4,
     // A read or write goes to a bank open at its row.
-    ColumnOpen,
+    ColumnOpen = 5,
     // Activate to activate, same bank: tRC.
-    ActivateActivateSame,
+    ActivateActivateSame = 6,
     // Activate to activate, another bank: tRRD.
-    ActivateActivateOther,
+    ActivateActivateOther = 7,
     // Activate to precharge, same bank: tRAS.
-    ActivatePrecharge,
+    ActivatePrecharge = 8,
     // Activate to read or write, same bank: tRCD.
-    ActivateColumn,
+    ActivateColumn = 9,
     // Precharge to activate, same bank: tRP.
-    PrechargeActivate,
+    PrechargeActivate = 10,
     // Read to read and write to write, any banks: tCCD.
-    ColumnColumn,
+    ColumnColumn = 11,
     // Read to write, any banks: RL + tCCD + 2 - WL.
-    ReadWrite,
+    ReadWrite = 12,
     // Write to read, any banks: WL + BURST + tWTR.
-    WriteRead,
+    WriteRead = 13,
     // Read to precharge, same bank: tRTP.
-    ReadPrecharge,
+    ReadPrecharge = 14,
     // Write to precharge, same bank: WL + BURST + tWR.
-    WritePrecharge,
+    WritePrecharge = 15,
     // The fifth of any five successive activates comes tFAW after the first, or later.
-    FourActivates,
+    FourActivates = 16,
 }
 
 impl Rule {
-    // The number by which the rule is told.
+    // The number by which the rule is told. It has a name and is no `From`: `u8::from` would not say that it is the listed number.
     pub fn number(self) -> u8
         ensures { result ≡ rule_number self }
     {
+        self as u8
+    }
+
+    // What is wrong where the rule is broken.
+    #[tactic(auto, unfolding(crate::specs::Sentences::sentence))]
+    fn sentence(self) -> &'static str
+        ensures { result.now ≡ sentence self }
+    {
         match self {
-            Rule::CyclesRise => 1,
-            Rule::InsideChip => 2,
-            Rule::ActivateClosed => 3,
-            Rule::PrechargeOpen => 4,
-            Rule::ColumnOpen => 5,
-            Rule::ActivateActivateSame => 6,
-            Rule::ActivateActivateOther => 7,
-            Rule::ActivatePrecharge => 8,
-            Rule::ActivateColumn => 9,
-            Rule::PrechargeActivate => 10,
-            Rule::ColumnColumn => 11,
-            Rule::ReadWrite => 12,
-            Rule::WriteRead => 13,
-            Rule::ReadPrecharge => 14,
-            Rule::WritePrecharge => 15,
-            Rule::FourActivates => 16,
+            Rule::CyclesRise => "the cycle is not larger than that of the line before",
+            Rule::InsideChip => "the bank, row or column is outside the chip",
+            Rule::ActivateClosed => "an activate goes to a bank that is open",
+            Rule::PrechargeOpen => "a precharge goes to a bank that is closed",
+            Rule::ColumnOpen => "a read or write goes to a bank that is not open at its row",
+            Rule::ActivateActivateSame =>
+                "an activate comes too soon after an activate of the same bank",
+            Rule::ActivateActivateOther =>
+                "an activate comes too soon after an activate of another bank",
+            Rule::ActivatePrecharge =>
+                "a precharge comes too soon after an activate of the same bank",
+            Rule::ActivateColumn =>
+                "a read or write comes too soon after an activate of the same bank",
+            Rule::PrechargeActivate =>
+                "an activate comes too soon after a precharge of the same bank",
+            Rule::ColumnColumn => "a read comes too soon after a read, or a write after a write",
+            Rule::ReadWrite => "a write comes too soon after a read",
+            Rule::WriteRead => "a read comes too soon after a write",
+            Rule::ReadPrecharge => "a precharge comes too soon after a read of the same bank",
+            Rule::WritePrecharge => "a precharge comes too soon after a write of the same bank",
+            Rule::FourActivates =>
+                "a fifth activate comes too soon after the first of the last five",
         }
+    }
+}
+
+// A rule is shown as what is wrong where it is broken.
+impl fmt::Display for Rule {
+    ghost output = { λ rule. Some (sentence rule) };
+
+    fn fmt<W: fmt::Write>(&self, f: &mut fmt::Formatter<W>) -> fmt::Result {
+        f.write_str(self.sentence())
     }
 }

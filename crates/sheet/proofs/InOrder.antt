@@ -1,5 +1,5 @@
 -- Thirteen timings by their places: their values, and that each lies in range where no place is found outside.
-use Rattle.std.proofs.Common.{◌≡◌, ℕ, ◌<◌, Bool, false, not, ltb, List, map, length, get_or, None, sym, refl, ap, ◌∙◌, subst, arith}
+use Rattle.std.proofs.Common.{◌≡◌, ℕ, ◌<◌, ◌≤◌, false, not, ltb, List, map, length, get_or, None, sym, refl, ap, ◌∙◌, subst, arith}
 use Rattle.std.specs.List.{range_with_len}
 use Rattle.std.proofs.lemmas.List.FromFn.{fill_by_all}
 use Rattle.std.proofs.lemmas.Bool.Decides.{nat_tests}
@@ -20,11 +20,14 @@ pub values_by_place : (period : ℕ) (timings : List Timing) (d : Timing) → le
     map (λ k. value_at period (get_or timings k d)) (range_with_len 0 13) ≡ map (value_at period) timings
 values_by_place period timings d h = ap (map (value_at period)) (sym (thirteen timings d h))
 
-pub late_by_place : (period : ℕ) (timings : List Timing) (d : Timing) (rl wl : Cycles) (b : Bool) → length timings ≡ 13 →
-    rl ≡ value_at period (get_or timings 10 d) → wl ≡ value_at period (get_or timings 11 d) → ltb rl.0 wl.0 ≡ b →
-    late (map (value_at period) timings) ≡ b
-late_by_place period timings d rl wl b h r w e =
-    ap late (sym (values_by_place period timings d h)) ∙ (λ i. ltb (sym r i).0 (sym w i).0) ∙ e
+not_over : (a b : ℕ) → a ≤ b → ltb b a ≡ false
+not_over a b l = grind (arith, nat_tests)
+
+pub in_time : (period : ℕ) (timings : List Timing) (d : Timing) (rl wl : Cycles) → length timings ≡ 13 →
+    rl ≡ value_at period (get_or timings 10 d) → wl ≡ value_at period (get_or timings 11 d) → wl.0 ≤ rl.0 →
+    late (map (value_at period) timings) ≡ false
+in_time period timings d rl wl h r w l =
+    ap late (sym (values_by_place period timings d h)) ∙ (λ i. ltb (sym r i).0 (sym w i).0) ∙ not_over wl.0 rl.0 l
 
 inside : (n : ℕ) → not (within 1 255 n) ≡ false → InRange n
 inside n e = grind (arith, nat_tests)

@@ -4,9 +4,9 @@ use Rattle.sheet.specs.Units.{picoseconds, cycles, within, rounded_up}
 use Rattle.sheet.specs.declared.units.Cycles.{Cycles}
 use Rattle.sheet.specs.declared.given.Timing.{Timing}
 
--- a timing of no length and no count
-abbrev pub no_timing : Timing
-no_timing = record { length = picoseconds 0; least = cycles 0 }
+-- a timing of a count of cycles and no length
+abbrev pub counted : Cycles → Timing
+counted count = record { length = picoseconds 0; least = count }
 
 -- the length is over 10,000,000 picoseconds, or the least count over 255
 abbrev pub over_limit : Timing → Bool

@@ -5,3 +5,4 @@ pub mod First
 pub mod Given
 pub mod Making
 pub mod Spans
+pub mod Inside

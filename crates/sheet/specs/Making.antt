@@ -39,11 +39,6 @@ abbrev pub sheet_told : Result Sheet SheetRefusal → Result (List Cycles) Refus
 sheet_told (Ok s) = Ok (in_order s)
 sheet_told (Err e) = Err (record { number = sheet_number e; place = sheet_place e })
 
--- refused for this reason at a place, if there is one
-abbrev pub refused_at : (ℕ → SheetRefusal) → Option ℕ → Result Unit SheetRefusal
-refused_at why (Some place) = Err (why place)
-refused_at why None = Ok tt
-
 -- refused with this number at a place, if there is one; else what follows
 abbrev pub unless_at : {X : Type 0} → ℕ → Option ℕ → Result X Refused → Result X Refused
 unless_at number (Some place) rest = Err (record { number = number; place = Some place })

@@ -4,8 +4,8 @@ ghost use Rattle.sheet.specs.Limits.{InRange};
 
 use crate::units::Cycles;
 
-// The thirteen timings in cycles, in the order of a sheet, named as the DDR3 standard names them without their t. Made by `Sheet::new`; each is 1 to 255 and WL is at most RL, for good.
-#[derive(Clone, Copy)]
+// The thirteen timings in cycles, in the order of a sheet, named as the DDR3 standard names them without their t. Made by `Sheet::new`; each is 1 to 255 and WL is at most RL, for good. One fact a timing, so that each is at hand under its name.
+#[derive(Clone, Copy, Debug, PartialEq, Eq)]
 pub struct Sheet {
     pub rcd: Cycles,
     pub rp: Cycles,

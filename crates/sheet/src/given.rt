@@ -1,14 +1,26 @@
 // One timing as a data sheet gives it.
 ghost use Rattle.std.specs.Prelude.{◌≡◌};
-ghost use Rattle.sheet.specs.Given.{over_limit, value_at, value_outside};
+ghost use Rattle.sheet.specs.Given.{counted, over_limit, value_at, value_outside};
 
 use crate::units::{Cycles, Period, Picoseconds};
 
 // A length of time and a least count of cycles; both have to pass.
-#[derive(Clone, Copy)]
+#[derive(Clone, Copy, Debug, PartialEq, Eq)]
 pub struct Timing {
     pub length: Picoseconds,
     pub least: Cycles,
+}
+
+// A timing given by its count of cycles alone.
+impl From<Cycles> for Timing {
+    ghost from_gives = { λ count timing. timing ≡ counted count };
+
+    fn from(count: Cycles) -> Timing {
+        Timing {
+            length: Picoseconds::new(0),
+            least: count,
+        }
+    }
 }
 
 impl Timing {
@@ -16,14 +28,14 @@ impl Timing {
     pub fn is_over_limit(self) -> bool
         ensures { result ≡ over_limit self }
     {
-        self.length.is_over(Picoseconds::new(10_000_000)) || self.least.is_over(Cycles::new(255))
+        self.length > Picoseconds::new(10_000_000) || self.least > Cycles::new(255)
     }
 
     // The timing in cycles of this period: the least count, or the length where that is more.
     pub fn value(self, period: Period) -> Cycles
         ensures { result ≡ value_at period.length.0 self }
     {
-        self.least.or_longer(self.length.in_cycles(period))
+        self.least.max(self.length.in_cycles(period))
     }
 
     // Whether the timing in cycles is none that a sheet can have.
@@ -31,6 +43,6 @@ impl Timing {
         ensures { result ≡ value_outside period.length.0 self }
     {
         let value = self.value(period).count();
-        value < 1 || value > 255
+        !(1..=255).contains(&value)
     }
 }

@@ -1,9 +1,8 @@
 // Making a sheet and a chip, and why one is refused.
 ghost use Rattle.std.specs.Prelude.{◌≡◌, None};
-ghost use Rattle.sheet.specs.declared.making.SheetRefusal.TheVariants.{Limit, Value};
-ghost use Rattle.sheet.specs.First.{First, first_place};
-ghost use Rattle.sheet.specs.Given.{no_timing, over_limit, value_outside};
-ghost use Rattle.sheet.specs.Making.{sheet_number, sheet_place, sheet_told, sheet_made, valued_or_late, refused_at, chip_number, chip_told, chip_made};
+ghost use Rattle.sheet.specs.First.{first_place};
+ghost use Rattle.sheet.specs.Given.{over_limit, value_outside};
+ghost use Rattle.sheet.specs.Making.{sheet_number, sheet_place, sheet_told, sheet_made, valued_or_late, chip_number, chip_told, chip_made};
 
 use crate::accepted::Sheet;
 use crate::geometry::Chip;
@@ -11,7 +10,7 @@ use crate::given::Timing;
 use crate::units::{Period, Picoseconds};
 
 // Why a sheet is refused; the first reason in this order is answered. A place is that of a timing in the sheet, from 0.
-#[derive(Clone, Copy)]
+#[derive(Clone, Copy, Debug, PartialEq, Eq)]
 pub enum SheetRefusal {
     // The period is not 1 to 100,000 picoseconds.
     Period,
@@ -24,6 +23,7 @@ pub enum SheetRefusal {
 }
 
 impl SheetRefusal {
+    // The number of the refusal. It has a name and is no `From`: `u8::from` would not say that it is the listed number.
     pub fn number(self) -> u8
         ensures { result ≡ sheet_number self }
     {
@@ -35,6 +35,7 @@ impl SheetRefusal {
         }
     }
 
+    // The place of the timing that it carries.
     pub fn place(self) -> Option<usize>
         ensures { result ≡ sheet_place self }
     {
@@ -50,55 +51,29 @@ impl Sheet {
     pub fn new(period: Picoseconds, timings: [Timing; 13]) -> Result<Sheet, SheetRefusal>
         ensures { sheet_told result ≡ sheet_made period.0 timings }
     {
-        let Some(period) = Period::new(period) else {
-            return Err(SheetRefusal::Period);
-        };
-        check_limits(&timings)?;
-        check_range(period, &timings)?;
+        let period = Period::new(period).ok_or(SheetRefusal::Period)?;
+        if let Some(place) = first_over_limit(&timings) {
+            return Err(SheetRefusal::Limit(place));
+        }
+        if let Some(place) = first_outside(period, &timings) {
+            return Err(SheetRefusal::Value(place));
+        }
         valued(period, timings)
     }
 }
 
-// Refused at the first timing whose length or count is over its limit.
-fn check_limits(timings: &[Timing]) -> Result<(), SheetRefusal>
-    ensures { result ≡ refused_at Limit (first_place over_limit timings.now) }
-{
-    match first_over_limit(timings) {
-        Some(place) => Err(SheetRefusal::Limit(place)),
-        None => Ok(()),
-    }
-}
-
-// Refused at the first timing whose value is not 1 to 255.
-fn check_range(period: Period, timings: &[Timing]) -> Result<(), SheetRefusal>
-    ensures { result ≡ refused_at Value (first_place (value_outside period.length.0) timings.now) }
-{
-    match first_outside(period, timings) {
-        Some(place) => Err(SheetRefusal::Value(place)),
-        None => Ok(()),
-    }
-}
-
+// The place of the first timing whose length or count is over its limit; a function of its own, so that its caller has the clause.
 fn first_over_limit(timings: &[Timing]) -> Option<usize>
-    ensures { First over_limit no_timing timings.now result }
+    ensures { result ≡ first_place over_limit timings.now }
 {
-    for (place, timing) in timings.iter().enumerate() {
-        if timing.is_over_limit() {
-            return Some(place);
-        }
-    }
-    None
+    timings.iter().position(|timing| timing.is_over_limit())
 }
 
+// The place of the first timing whose value is not 1 to 255; a function of its own, so that its caller has the clause.
 fn first_outside(period: Period, timings: &[Timing]) -> Option<usize>
-    ensures { First (value_outside period.length.0) no_timing timings.now result }
+    ensures { result ≡ first_place (value_outside period.length.0) timings.now }
 {
-    for (place, timing) in timings.iter().enumerate() {
-        if timing.is_outside(period) {
-            return Some(place);
-        }
-    }
-    None
+    timings.iter().position(|timing| timing.is_outside(period))
 }
 
 // The sheet of timings that all have a value of 1 to 255.
@@ -109,7 +84,7 @@ fn valued(period: Period, timings: [Timing; 13]) -> Result<Sheet, SheetRefusal>
     let [rcd, rp, ras, rc, rrd, faw, ccd, rtp, wr, wtr, rl, wl, burst] = timings;
     let rl = rl.value(period);
     let wl = wl.value(period);
-    if wl.is_over(rl) {
+    if wl > rl {
         return Err(SheetRefusal::Latencies);
     }
     Ok(Sheet {
@@ -130,19 +105,18 @@ fn valued(period: Period, timings: [Timing; 13]) -> Result<Sheet, SheetRefusal>
 }
 
 // Why a chip is refused.
-#[derive(Clone, Copy)]
+#[derive(Clone, Copy, Debug, PartialEq, Eq)]
 pub enum ChipRefusal {
     // Banks are not 1 to 16, rows not 1 to 65,536, or columns not 1 to 1,024.
-    Size,
+    Size = 5,
 }
 
 impl ChipRefusal {
+    // The number of the refusal. It has a name and is no `From`: `u8::from` would not say that it is the listed number.
     pub fn number(self) -> u8
         ensures { result ≡ chip_number self }
     {
-        match self {
-            ChipRefusal::Size => 5,
-        }
+        self as u8
     }
 }
 
@@ -151,7 +125,10 @@ impl Chip {
     pub fn new(banks: u32, rows: u32, columns: u32) -> Result<Chip, ChipRefusal>
         ensures { chip_told result ≡ chip_made banks rows columns }
     {
-        if banks < 1 || banks > 16 || rows < 1 || rows > 65_536 || columns < 1 || columns > 1_024 {
+        if !(1..=16).contains(&banks)
+            || !(1..=65_536).contains(&rows)
+            || !(1..=1_024).contains(&columns)
+        {
             return Err(ChipRefusal::Size);
         }
         Ok(Chip {

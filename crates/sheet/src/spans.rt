@@ -1,4 +1,4 @@
-// The derived gaps, the three stretches of a service, and the span.
+// The derived gaps, the three stretches of a service, and the span. Sums are made of numbers: cycles have no `+`, since a sum of any two might not fit.
 ghost use Rattle.std.specs.Prelude.{◌≡◌, ◌≤◌};
 ghost use Rattle.sheet.specs.Units.{cycles};
 ghost use Rattle.sheet.specs.Spans.{read_to_write, write_to_read, write_to_precharge, to_precharge, to_activate, to_column, span};
@@ -29,26 +29,19 @@ impl Sheet {
         Cycles::new(self.wl.count() + self.burst.count() + self.wr.count())
     }
 
-    // The stretches of a service, together: until a precharge is lawful, from there until an activate is, and from there until the column command is.
+    // The stretches of a service, together by a rule of the project (docs/DECISIONS.md): until a precharge is lawful, from there until an activate is, and from there until the column command is.
     pub fn stretches(&self) -> (Cycles, Cycles, Cycles)
         ensures until_precharge { result.0 ≡ cycles (to_precharge self.now) }
         ensures until_activate { result.1 ≡ cycles (to_activate self.now) }
         ensures until_column { result.2 ≡ cycles (to_column self.now) }
     {
-        let until_precharge = self
-            .ras
-            .or_longer(self.rtp)
-            .or_longer(self.write_to_precharge());
-        let until_activate = self
-            .rp
-            .or_longer(self.rc)
-            .or_longer(self.rrd)
-            .or_longer(self.faw);
+        let until_precharge = self.ras.max(self.rtp).max(self.write_to_precharge());
+        let until_activate = self.rp.max(self.rc).max(self.rrd).max(self.faw);
         let until_column = self
             .rcd
-            .or_longer(self.ccd)
-            .or_longer(self.read_to_write())
-            .or_longer(self.write_to_read());
+            .max(self.ccd)
+            .max(self.read_to_write())
+            .max(self.write_to_read());
         (until_precharge, until_activate, until_column)
     }
 

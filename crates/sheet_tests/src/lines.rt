@@ -10,29 +10,32 @@ const LINE: [u8; 120] =
 
 // The refusal's number for a line, 0 where it is taken.
 fn refusal(line: &[u8]) -> u8 {
-    match read_board(line) {
-        Ok(_) => 0,
-        Err(why) => why.number(),
-    }
+    read_board(line).err().map_or(0, |why| why.number())
+}
+
+// The value of a byte as a digit, 255 where it is none.
+fn value_of(byte: u8) -> u8 {
+    digit_value(byte).unwrap_or(255)
 }
 
 #[test]
 fn digits_are_upper_case(rt: HostRuntime) {
     for byte in 0..=255u8 {
         let upper = b"0123456789ABCDEF".contains(&byte);
-        assert_eq!(rt; digit_value(byte) != 255, upper);
+        assert_eq!(rt; value_of(byte) != 255, upper);
     }
-    assert_eq!(rt; digit_value(b'0'), 0);
-    assert_eq!(rt; digit_value(b'9'), 9);
-    assert_eq!(rt; digit_value(b'A'), 10);
-    assert_eq!(rt; digit_value(b'F'), 15);
-    assert_eq!(rt; digit_value(b'a'), 255);
-    assert_eq!(rt; digit_value(b'G'), 255);
+    assert_eq!(rt; value_of(b'0'), 0);
+    assert_eq!(rt; value_of(b'9'), 9);
+    assert_eq!(rt; value_of(b'A'), 10);
+    assert_eq!(rt; value_of(b'F'), 15);
+    assert_eq!(rt; value_of(b'a'), 255);
+    assert_eq!(rt; value_of(b'G'), 255);
 }
 
 #[test]
 fn a_damaged_line_is_malformed(rt: HostRuntime) {
     assert_eq!(rt; refusal(&LINE), 0);
+    // each place by its number, since it is there that the line is damaged
     for place in 0..120 {
         let mut line = LINE;
         line[place] = b'g';

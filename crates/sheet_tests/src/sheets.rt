@@ -146,43 +146,29 @@ const CASES: [Case; 16] = [
     },
 ];
 
+// Thirteen timings of so many cycles and no length.
 fn timings(counts: &[u32; 13]) -> [Timing; 13] {
-    let none = Timing {
-        length: Picoseconds::new(0),
-        least: Cycles::new(0),
-    };
-    let mut timings = [none; 13];
-    for place in 0..13 {
-        timings[place].least = Cycles::new(counts[place]);
-    }
-    timings
+    counts.map(|count| Timing::from(Cycles::new(count)))
 }
 
 // The three stretches and the span of a sheet that is accepted.
 fn sizes(counts: &[u32; 13]) -> Option<[u32; 4]> {
-    let Ok(sheet) = Sheet::new(Picoseconds::new(1_250), timings(counts)) else {
-        return None;
-    };
-    let Ok(chip) = Chip::new(8, 1_024, 64) else {
-        return None;
-    };
+    let sheet = Sheet::new(Picoseconds::new(1_250), timings(counts)).ok()?;
+    let chip = Chip::new(8, 1_024, 64).ok()?;
     let (a, b, c) = sheet.stretches();
     Some([a.count(), b.count(), c.count(), sheet.span(&chip).count()])
 }
 
 // A refusal's number and place; 0 and none for a sheet that is accepted.
 fn told(answer: Result<Sheet, SheetRefusal>) -> (u8, Option<usize>) {
-    match answer {
-        Ok(_) => (0, None),
-        Err(why) => (why.number(), why.place()),
-    }
+    answer
+        .err()
+        .map_or((0, None), |why| (why.number(), why.place()))
 }
 
 #[test]
 fn a_length_rounds_up_to_cycles(rt: HostRuntime) -> Result<(), Fail> {
-    let Some(period) = Period::new(Picoseconds::new(1_250)) else {
-        return Err(Fail::new("no period"));
-    };
+    let period = Period::new(Picoseconds::new(1_250)).ok_or("no period")?;
     assert_eq!(rt; Picoseconds::new(13_750).in_cycles(period).count(), 11);
     assert_eq!(rt; Picoseconds::new(13_751).in_cycles(period).count(), 12);
     Ok(())
@@ -230,20 +216,20 @@ fn stretches_and_span(rt: HostRuntime) {
 }
 
 #[test]
-fn sheets_at_their_limits(rt: HostRuntime) {
+fn sheets_at_their_limits(rt: HostRuntime) -> Result<(), Fail> {
     for case in &CASES {
         let mut given = timings(&SMALL);
-        if case.place < 13 {
-            given[case.place] = Timing {
-                length: Picoseconds::new(case.length),
-                least: Cycles::new(case.least),
-            };
-        }
+        let timing = given.get_mut(case.place).ok_or("no such place")?;
+        *timing = Timing {
+            length: Picoseconds::new(case.length),
+            least: Cycles::new(case.least),
+        };
         assert_eq!(rt;
             told(Sheet::new(Picoseconds::new(case.period), given)),
             (case.number, case.at)
         );
     }
+    Ok(())
 }
 
 #[test]
@@ -265,7 +251,7 @@ fn the_first_bad_place_is_told(rt: HostRuntime) {
 }
 
 #[test]
-fn chips_at_their_limits(rt: HostRuntime) -> Result<(), Fail> {
+fn chips_at_their_limits(rt: HostRuntime) {
     assert!(rt; Chip::new(1, 1, 1).is_ok());
     assert!(rt; Chip::new(16, 65_536, 1_024).is_ok());
     for (banks, rows, columns) in [
@@ -276,10 +262,7 @@ fn chips_at_their_limits(rt: HostRuntime) -> Result<(), Fail> {
         (1, 1, 0),
         (1, 1, 1_025),
     ] {
-        match Chip::new(banks, rows, columns) {
-            Ok(_) => return Err(Fail::new("accepted")),
-            Err(why) => assert_eq!(rt; why.number(), 5),
-        }
+        let refused = Chip::new(banks, rows, columns).err();
+        assert_eq!(rt; refused.map(|why| why.number()), Some(5));
     }
-    Ok(())
 }

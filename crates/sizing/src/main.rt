@@ -8,6 +8,7 @@ use std::io::Read;
 // A sheet line has 120 bytes; one more is read, so that a longer input is seen.
 const MOST: u64 = 121;
 
+// Like the main of `judge` but for the limit and the call: five lines are shorter than what would serve both.
 fn main(rt: HostRuntime) -> io::Result<()> {
     let heap = rt.alloc();
     let mut line = Vec::new(heap);

@@ -1,7 +1,7 @@
 -- Lines and proper commands correspond one to one.
 use Rattle.std.proofs.Common.{◌≡◌, ℕ, ◌^◌, ◌<◌, Bool, true, false, cond, ◌&&◌, eqb, ltb, ◌⊎◌, List, [], ◌∷◌, ◌++◌, drop, Some, None, Option, sym, refl, ap, ◌∙◌, subst, inl, inr, append_assoc, arith, ltb-true, eqb-true}
 use Rattle.std.proofs.lemmas.List.{drop_at}
-use Rattle.std.proofs.lemmas.Bool.{lt-ltb}
+use Rattle.std.proofs.lemmas.Bool.{lt-ltb, and_parts}
 use Rattle.rulebook.specs.Kinds.{kind_number, kind_of}
 use Rattle.rulebook.specs.declared.command.Kind.{Kind}
 use Rattle.rulebook.specs.declared.command.Kind.TheVariants.{Idle, Activate, Precharge, Read, Write}
@@ -11,6 +11,8 @@ use Rattle.trace.specs.Fields.{and_then, with_field, is_feed}
 use Rattle.trace.specs.Line.{fits, blank, proper, line_of, front_in, behind_front, back_in, command_of, command_in}
 use Rattle.trace.specs.declared.line.Front.{Front}
 use Rattle.trace.specs.declared.line.Back.{Back}
+use Rattle.std.proofs.lemmas.Option.{same_Some}
+use Rattle.trace.proofs.Values.{kept}
 use Rattle.trace.proofs.Fieldwise.{reads_field, field_then, only_feed, length_digits}
 
 -- a kind and its number
@@ -42,18 +44,14 @@ record Fitting (c : Command) : Type 0 where
   number_fits : c.number < 16 ^ 8
   leaves_blank : blank c ≡ true
 
-both_true : (a b : Bool) → (a && b) ≡ true → (a ≡ true) × (b ≡ true)
-both_true true b e = (refl, e)
-both_true false b e = let z : ◌≡◌ {A = ℕ} 0 1 = cc in absurd (omega arith)
-
 fitting : (c : Command) → proper c ≡ true → Fitting c
 fitting c h =
-    let all = both_true (fits c) (blank c) h in
-    let f1 = both_true (ltb c.cycle (16 ^ 8)) _ all.0 in
-    let f2 = both_true (ltb c.bank (16 ^ 1)) _ f1.1 in
-    let f3 = both_true (ltb c.row (16 ^ 4)) _ f2.1 in
-    let f4 = both_true (ltb c.column (16 ^ 3)) _ f3.1 in
-    let f5 = both_true (ltb c.requester (16 ^ 1)) _ f4.1 in
+    let all = and_parts (fits c) (blank c) h in
+    let f1 = and_parts (ltb c.cycle (16 ^ 8)) _ all.0 in
+    let f2 = and_parts (ltb c.bank (16 ^ 1)) _ f1.1 in
+    let f3 = and_parts (ltb c.row (16 ^ 4)) _ f2.1 in
+    let f4 = and_parts (ltb c.column (16 ^ 3)) _ f3.1 in
+    let f5 = and_parts (ltb c.requester (16 ^ 1)) _ f4.1 in
     record {
       cycle_fits = ltb-true _ _ f1.0;
       bank_fits = ltb-true _ _ f2.0;
@@ -163,17 +161,8 @@ pub record Came {X Y : Type 0} (o : Option Y) (f : Y → Option X) (x : X) : Typ
   pub follows : f value ≡ Some x
 
 pub came : {X Y : Type 0} (o : Option Y) (f : Y → Option X) (x : X) → and_then o f ≡ Some x → Came o f x
-came None f x h = let z : ◌≡◌ {A = ℕ} 0 1 = cc in absurd (omega arith)
+came None f x h = cc
 came (Some y) f x h = record { value = y; is = refl; follows = h }
-
--- a value under a condition
-pub kept : {X : Type 0} (v : Bool) (x y : X) → cond v (Some x) None ≡ Some y → (v ≡ true) × (x ≡ y)
-kept true x y h = (refl, cc)
-kept false x y h = let z : ◌≡◌ {A = ℕ} 0 1 = cc in absurd (omega arith)
-
--- what stands in two equal options is equal
-pub some_same : {X : Type 0} (x y : X) → Some x ≡ Some y → x ≡ y
-some_same x y h = cc
 
 -- the number of a kind that was known by it
 kind_back : (n : ℕ) (k : Kind) → kind_of n ≡ Some k → n ≡ kind_number k
@@ -187,7 +176,7 @@ kind_back n k h = elim (one_kind (eqb n 0) n 0 Idle k _ refl h) [
         | inl p ↦ p.0 ∙ ap kind_number p.1
         | inr h4 ↦ elim (one_kind (eqb n 4) n 4 Write k _ refl h4) [
           | inl p ↦ p.0 ∙ ap kind_number p.1
-          | inr h5 ↦ let z : ◌≡◌ {A = ℕ} 0 1 = cc in absurd (omega arith)
+          | inr h5 ↦ cc
         ]
       ]
     ]
@@ -215,7 +204,7 @@ front_from bs f h =
     let r3 = drop 1 r2 in
     let t4 = field_then 4 r3 (on_row cycle kind bank) f t3.rest in
     let row = t4.number in
-    let same : record { cycle = cycle; kind = kind; bank = bank; row = row } ≡ f = some_same _ f t4.rest in
+    let same : record { cycle = cycle; kind = kind; bank = bank; row = row } ≡ f = same_Some _ f t4.rest in
     subst (λ (g : Front). FrontFrom bs g) same (record {
       bytes =
           t1.from.bytes

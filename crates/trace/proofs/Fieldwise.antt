@@ -33,7 +33,7 @@ below n p some e = omega (arith, div-add-mod' n p, ap (λ q. q * p) e, mod-lt n 
 
 long_enough : (w n : ℕ) (bs : List ℕ) (v : Bool) → v ≡ leb w (length bs) → cond v (number_in (take w bs)) None ≡ Some n → (w ≤ length bs) × (number_in (take w bs) ≡ Some n)
 long_enough w n bs true e h = (leb-true w (length bs) (sym e), h)
-long_enough w n bs false e h = let z : ◌≡◌ {A = ℕ} 0 1 = cc in absurd (omega arith)
+long_enough w n bs false e h = cc
 
 -- what a field of w digits was read from
 pub record Read_from (w n : ℕ) (bs : List ℕ) : Type 0 where
@@ -58,7 +58,7 @@ pub record Then {X : Type 0} (w : ℕ) (bs : List ℕ) (f : ℕ → List ℕ →
   pub rest : f number (drop w bs) ≡ Some x
 
 then_by : {X : Type 0} (w : ℕ) (bs : List ℕ) (f : ℕ → List ℕ → Option X) (x : X) (o : Option ℕ) → o ≡ field_in w bs → and_then o (λ n. f n (drop w bs)) ≡ Some x → Then w bs f x
-then_by w bs f x None e h = let z : ◌≡◌ {A = ℕ} 0 1 = cc in absurd (omega arith)
+then_by w bs f x None e h = cc
 then_by w bs f x (Some n) e h = record { number = n; from = digits_of_field w n bs (sym e); rest = h }
 
 pub field_then : {X : Type 0} (w : ℕ) (bs : List ℕ) (f : ℕ → List ℕ → Option X) (x : X) → with_field w bs f ≡ Some x → Then w bs f x

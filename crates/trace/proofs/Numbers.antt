@@ -45,7 +45,7 @@ pub record WrittenAs (m n : ℕ) (bs : List ℕ) : Type 0 where
 
 digit_first : (b m n : ℕ) (o : Option ℕ) (v : Bool) → v ≡ leb (digit_value b) 15 → cond v o None ≡ Some n → (digit_value b ≤ 15) × (o ≡ Some n)
 digit_first b m n o true e h = (leb-true (digit_value b) 15 (sym e), h)
-digit_first b m n o false e h = let z : ◌≡◌ {A = ℕ} 0 1 = cc in absurd (omega arith)
+digit_first b m n o false e h = cc
 
 pub written_as : (bs : List ℕ) (m n : ℕ) → number_after m bs ≡ Some n → WrittenAs m n bs
 unfolding digits

@@ -3,7 +3,8 @@ use Rattle.std.proofs.Common.{◌≡◌, ℕ, suc, ◌+◌, false, cond, not, lt
 use lib.ListN.{length-map}
 use Rattle.std.proofs.lemmas.List.{take_at}
 use Rattle.std.proofs.lemmas.Bool.{le-ltb}
-use Rattle.sheet.specs.First.{first_from, first_place}
+use Rattle.std.specs.List.{position_from}
+use Rattle.sheet.specs.First.{first_place}
 use Rattle.sheet.specs.Making.{Refused, refused, unless_at}
 use Rattle.rulebook.specs.declared.command.Command.{Command}
 use Rattle.trace.specs.Line.{command_in}
@@ -11,12 +12,12 @@ use Rattle.trace.specs.Text.{line_count, lines_of, no_command, malformed, comman
 use Rattle.trace.specs.Reading.{read_told, reading, records_after, ReadOnlySo, ReadsBack}
 use Rattle.trace.specs.declared.reading.ReadRefusal.{ReadRefusal}
 use Rattle.sheet.proofs.First.{false_by, rest_by}
-use Rattle.trace.proofs.TextLaws.{head_same, tail_same, length_lines, only_so, read_back}
+use Rattle.trace.proofs.TextLaws.{length_lines, only_so, read_back}
 use Rattle.trace.proofs.Told.{counted}
 
 -- lines that stand for these commands are well formed, and are read as they
 record Known (ps : List (List ℕ)) (cs : List Command) (k : ℕ) : Type 0 where
-  none_bad : first_from malformed k ps ≡ None
+  none_bad : position_from malformed k ps ≡ None
   commands : map command_at ps ≡ cs
   count : length ps ≡ length cs
 
@@ -30,31 +31,31 @@ known_command p c h = ap (λ o. unwrap_or o no_command) h
 
 known : (ps : List (List ℕ)) (cs : List Command) (k : ℕ) → map command_in ps ≡ map Some cs → Known ps cs k
 known [] [] k h = record { none_bad = refl; commands = refl; count = refl }
-known [] (c ∷ cs) k h = let z : ◌≡◌ {A = ℕ} 0 1 = cc in absurd (omega arith)
-known (p ∷ ps) [] k h = let z : ◌≡◌ {A = ℕ} 0 1 = cc in absurd (omega arith)
+known [] (c ∷ cs) k h = cc
+known (p ∷ ps) [] k h = cc
 known (p ∷ ps) (c ∷ cs) k h =
-    let first = head_same _ _ (map command_in ps) (map Some cs) h in
-    let r = known ps cs (k + 1) (tail_same (command_in p) (Some c) _ _ h) in
+    let first : command_in p ≡ Some c = cc in
+    let r = known ps cs (k + 1) (cc) in
     record {
-      none_bad = ap (λ b. cond b (Some k) (first_from malformed (k + 1) ps)) (well_formed p c first) ∙ r.none_bad;
+      none_bad = ap (λ b. cond b (Some k) (position_from malformed (k + 1) ps)) (well_formed p c first) ∙ r.none_bad;
       commands = λ i. known_command p c first i ∷ r.commands i;
       count = ap suc r.count;
     }
 
 -- lines none of which is malformed stand for the commands that are read
 some_command : (o : Option Command) → not (is_some o) ≡ false → o ≡ Some (unwrap_or o no_command)
-some_command None e = let z : ◌≡◌ {A = ℕ} 0 1 = cc in absurd (omega arith)
+some_command None e = cc
 some_command (Some c) e = refl
 
 stands_for : (p : List ℕ) → malformed p ≡ false → command_in p ≡ Some (command_at p)
 unfolding malformed command_at
 stands_for p e = some_command (command_in p) e
 
-all_read : (ps : List (List ℕ)) (k : ℕ) → first_from malformed k ps ≡ None → map command_in ps ≡ map Some (map command_at ps)
+all_read : (ps : List (List ℕ)) (k : ℕ) → position_from malformed k ps ≡ None → map command_in ps ≡ map Some (map command_at ps)
 all_read [] k h = refl
 all_read (p ∷ ps) k h = λ i.
-    stands_for p (false_by (malformed p) k (first_from malformed (k + 1) ps) h) i
-    ∷ all_read ps (k + 1) (rest_by (malformed p) k (first_from malformed (k + 1) ps) h) i
+    stands_for p (false_by (malformed p) k (position_from malformed (k + 1) ps) h) i
+    ∷ all_read ps (k + 1) (rest_by (malformed p) k (position_from malformed (k + 1) ps) h) i
 
 pub read_only_so : (text : List ℕ) (r : Result ℕ ReadRefusal) (old after : List Command) →
     read_told r ≡ reading (length old) text → after ≡ records_after text r old → ReadOnlySo text r after
@@ -71,7 +72,7 @@ told_count (Ok count) n e = ap Ok (some_count count n e)
   where
     some_count : (a b : ℕ) → ◌≡◌ {A = Result ℕ Refused} (Ok a) (Ok b) → a ≡ b
     some_count a b h = cc
-told_count (Err why) n e = let z : ◌≡◌ {A = ℕ} 0 1 = cc in absurd (omega arith)
+told_count (Err why) n e = cc
 
 pub reads_back : (text : List ℕ) (r : Result ℕ ReadRefusal) (old after : List Command) →
     read_told r ≡ reading (length old) text → after ≡ records_after text r old → ReadsBack text old r after

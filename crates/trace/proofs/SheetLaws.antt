@@ -9,7 +9,9 @@ use Rattle.trace.specs.SheetLine.{timing_in, timings_in, sizes_in, sheet_line_in
 use Rattle.trace.specs.declared.sheet_line.SheetLine.{SheetLine}
 use Rattle.trace.specs.declared.sheet_line.Sizes.{Sizes}
 use Rattle.trace.proofs.Fieldwise.{length_digits, reads_field, field_then, only_feed}
-use Rattle.trace.proofs.Correspond.{some_same, came, kept}
+use Rattle.std.proofs.lemmas.Option.{same_Some}
+use Rattle.trace.proofs.Values.{kept}
+use Rattle.trace.proofs.Correspond.{came}
 
 -- what is read behind each field
 abbrev on_least : ℕ → ℕ → List ℕ → Option Timing
@@ -101,7 +103,7 @@ timing_from bs t h =
     let length = a.number in
     let b = field_then 2 (drop 6 bs) (on_least length) t a.rest in
     let least = b.number in
-    let same : record { length = picoseconds length; least = cycles least } ≡ t = some_same _ t b.rest in
+    let same : record { length = picoseconds length; least = cycles least } ≡ t = same_Some _ t b.rest in
     subst (λ (u : Timing). TimingFrom bs u) same (record {
       bytes =
           a.from.bytes
@@ -119,7 +121,7 @@ record TimingsFrom (n : ℕ) (bs : List ℕ) (ts : List Timing) : Type 0 where
 
 timings_from : (n : ℕ) (bs : List ℕ) (ts : List Timing) → timings_in n bs ≡ Some ts → TimingsFrom n bs ts
 unfolding timings_in
-timings_from zero bs ts h = subst (λ (us : List Timing). TimingsFrom 0 bs us) (some_same [] ts h) (record { bytes = refl; count = refl; fit = tt })
+timings_from zero bs ts h = subst (λ (us : List Timing). TimingsFrom 0 bs us) (same_Some [] ts h) (record { bytes = refl; count = refl; fit = tt })
 timings_from (suc n) bs ts h =
     let a = came (timing_in bs) (λ t. and_then (timings_in n (drop 8 bs)) (λ us. Some (t ∷ us))) ts h in
     let t = a.value in
@@ -127,7 +129,7 @@ timings_from (suc n) bs ts h =
     let us = b.value in
     let one = timing_from bs t a.is in
     let more = timings_from n (drop 8 bs) us b.is in
-    subst (λ (vs : List Timing). TimingsFrom (suc n) bs vs) (some_same (t ∷ us) ts b.follows) (record {
+    subst (λ (vs : List Timing). TimingsFrom (suc n) bs vs) (same_Some (t ∷ us) ts b.follows) (record {
       bytes =
           one.bytes
           ∙ ap (λ r. timing_text t ++ r) (more.bytes ∙ ap (λ r. timings_text us ++ r) (drop-drop (8 * n) 8 bs ∙ ap (λ m. drop m bs) (omega arith)))
@@ -176,7 +178,7 @@ only_text bs f h =
     let sizes = c.value in
     let ts = timings_from 13 r1 timings b.is in
     let zs = sizes_from (drop 104 r1) sizes c.is in
-    subst (λ (g : SheetLine). TextOfSheet g bs) (some_same _ f c.follows) (record {
+    subst (λ (g : SheetLine). TextOfSheet g bs) (same_Some _ f c.follows) (record {
       fits = record {
         thirteen = ts.count;
         period_fits = a.from.small;

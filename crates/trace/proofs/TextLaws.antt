@@ -1,7 +1,14 @@
 -- A text and its lines.
-use Rattle.std.proofs.Common.{◌≡◌, ℕ, zero, suc, ◌*◌, ◌<◌, ◌≤◌, List, [], ◌∷◌, ◌++◌, map, length, get_or, take, drop, Some, sym, refl, ap, ◌∙◌, arith}
+use Rattle.std.proofs.Common.{◌≡◌, ℕ, zero, suc, ◌+◌, ◌*◌, ◌<◌, ◌≤◌, min, ◌⊎◌, inl, inr, List, [], ◌∷◌, ◌++◌, map, length, get_or, take, drop, Some, None, Bor, sym, refl, ap, ◌∙◌, subst, append-nil, arith}
+use Rattle.std.specs.declared.iter.Enumerate.{Enumerate}
+use Rattle.std.specs.declared.slice.Chunks.{Chunks}
 use Rattle.std.specs.List.{flat_map}
-use Rattle.std.proofs.lemmas.List.{drop-drop, take_at, drop_at, take-append-drop, length-append, length-drop}
+use Rattle.std.specs.Iterator.{AlwaysYields}
+use Rattle.std.specs.Iterator.Adapters.{enumerate_source, enumerate_count, enumerate_steps}
+use Rattle.std.specs.Slice.Iter.{chunks_rest, chunks_size, chunks_steps}
+use Rattle.std.proofs.lemmas.Bool.{cases_lt}
+use Rattle.std.proofs.lemmas.Iterator.{YieldsList}
+use Rattle.std.proofs.lemmas.List.{nil_from_length, drop-drop, take_at, drop_at, take_all, drop_all, take-append-drop, length-append, length-drop}
 use Rattle.sheet.specs.Units.{rounded_up}
 use Rattle.rulebook.specs.declared.command.Command.{Command}
 use Rattle.trace.specs.Line.{line_of, command_in}
@@ -34,9 +41,6 @@ get_or_lines text k h = get_or_pieces (line_count text) k text h
 covered : (n : ℕ) → n ≤ 27 * rounded_up n 27
 covered n = omega arith
 
-pub inside : (n k : ℕ) → k < rounded_up n 27 → 27 * k < n
-inside n k h = omega arith
-
 pub outside : (n k : ℕ) → rounded_up n 27 ≤ k → n ≤ 27 * k
 outside n k h = omega arith
 
@@ -50,6 +54,90 @@ joined_pieces (suc n) bs h =
 joined_lines : (text : List ℕ) → flat_map (λ (l : List ℕ). l) (lines_of text) ≡ text
 unfolding lines_of
 joined_lines text = joined_pieces (line_count text) text (covered (length text))
+
+-- a list that is cut behind n elements, or behind all where it is shorter
+record Cut (n : ℕ) (xs ys : List ℕ) : Type 0 where
+  front : take n (xs ++ ys) ≡ xs
+  behind : drop n (xs ++ ys) ≡ ys
+
+cut_by : (n : ℕ) (xs ys : List ℕ) → length xs ≡ min n (length (xs ++ ys)) → (length xs < n) ⊎ (n ≤ length xs) → Cut n xs ys
+cut_by n xs ys h (inl short) =
+    let none = nil_from_length ys (omega (arith, h, length-append xs ys)) in
+    let all : xs ++ ys ≡ xs = ap (λ t. xs ++ t) none ∙ append-nil xs in
+    record { front = ap (take n) all ∙ take_all n xs (omega arith); behind = ap (drop n) all ∙ drop_all n xs (omega arith) ∙ sym none }
+cut_by n xs ys h (inr long) =
+    let whole : length xs ≡ n = omega (arith, h) in
+    record { front = take_at xs ys n whole; behind = drop_at xs ys n whole }
+
+cut : (n : ℕ) (xs ys : List ℕ) → length xs ≡ min n (length (xs ++ ys)) → Cut n xs ys
+cut n xs ys h = cut_by n xs ys h (cases_lt (length xs) n)
+
+pieces_given : (n : ℕ) (s : _) → chunks_size {T = ℕ} s ≡ 27 → n ≡ rounded_up (length (chunks_rest s)) 27 → AlwaysYields chunks_steps (λ line. line.now) s (pieces n (chunks_rest s))
+pieces_given zero s size count = λ line after step. omega (arith, count, step)
+pieces_given (suc n) s size count = (
+  λ after step. omega (arith, count, step.1.0),
+  λ line after step.
+      let text = chunks_rest s in
+      let rest = chunks_rest after in
+      let c = cut 27 line.now rest (step.1.1 ∙ (λ i. min (size i) (length (step.1.0 i)))) in
+      let behind : drop 27 text ≡ rest = ap (drop 27) step.1.0 ∙ c.behind in
+      let fewer : n ≡ rounded_up (length rest) 27 = omega (arith, count, step.1.2, ap length behind, length-drop 27 text) in (
+        sym (ap (take 27) step.1.0 ∙ c.front),
+        subst (λ (bs : List ℕ). AlwaysYields chunks_steps (λ l. l.now) after (pieces n bs)) (sym behind) (pieces_given n after (step.0 ∙ size) fewer),
+      ),
+)
+
+-- `chunks` of 27 bytes gives a text's lines
+pub chunks_are_lines : {s : _} (text : List ℕ) → chunks_rest s ≡ text → chunks_size s ≡ 27 → YieldsList chunks_steps (λ line. line.now) s (lines_of text)
+unfolding lines_of
+chunks_are_lines {s} text rest size =
+    let given : AlwaysYields chunks_steps (λ line. line.now) s (pieces (line_count (chunks_rest s)) (chunks_rest s)) = pieces_given (line_count (chunks_rest s)) s size refl in
+    record { runs = subst (λ (bs : List ℕ). AlwaysYields chunks_steps (λ line. line.now) s (pieces (line_count bs) bs)) rest given }
+
+-- where a `for` over the numbered `chunks` of 27 bytes stands: their size, what it has left of the text, and how many lines it took
+pub record AtLine (text : List ℕ) (s : Enumerate (Chunks ℕ)) : Type 0 where
+  pub size_is : chunks_size (enumerate_source s) ≡ 27
+  pub rest_is : chunks_rest (enumerate_source s) ≡ drop (27 * enumerate_count s) text
+  pub within : enumerate_count s ≤ line_count text
+
+pub before_lines : (text : List ℕ) (s : Enumerate (Chunks ℕ)) → chunks_size (enumerate_source s) ≡ 27 → chunks_rest (enumerate_source s) ≡ text → enumerate_count s ≡ 0 → AtLine text s
+before_lines text s size rest z = record { size_is = size; rest_is = rest ∙ ap (λ n. drop (27 * n) text) (sym z); within = omega arith }
+
+-- one turn of it: what came is line k, numbered k
+pub record OneLine (text : List ℕ) (s : Enumerate (Chunks ℕ)) (k : ℕ) (line : List ℕ) (t : Enumerate (Chunks ℕ)) : Type 0 where
+  pub numbered : k ≡ enumerate_count s
+  pub is : line ≡ get_or (lines_of text) k []
+  pub known : line ≡ line_at text k
+  pub below : k < line_count text
+  pub goes_on : AtLine text t
+  pub next : enumerate_count t ≡ k + 1
+
+pub one_line : (text : List ℕ) (s t : Enumerate (Chunks ℕ)) (p : ℕ × Bor (List ℕ)) → AtLine text s → enumerate_steps chunks_steps s (Some p) t → OneLine text s p.0 p.1.now t
+one_line text s t p at step =
+    let line = p.1.now in
+    let rest = chunks_rest (enumerate_source s) in
+    let after = chunks_rest (enumerate_source t) in
+    let k = p.0 in
+    let joined = step.0.1.0 in
+    let here : rest ≡ drop (27 * k) text = at.rest_is ∙ ap (λ n. drop (27 * n) text) (sym step.1) in
+    let c = cut 27 line after (step.0.1.1 ∙ (λ i. min (at.size_is i) (length (joined i)))) in
+    let below : k < line_count text = omega (arith, step.0.1.2, ap length here, length-drop (27 * k) text) in
+    let known : line ≡ line_at text k = sym c.front ∙ ap (take 27) (sym joined ∙ here) in
+    let one : enumerate_count t ≡ k + 1 = omega (arith, step.1, step.2) in
+    let behind : after ≡ drop (27 * (k + 1)) text =
+    sym c.behind ∙ ap (drop 27) (sym joined ∙ here) ∙ drop-drop 27 (27 * k) text ∙ ap (λ n. drop n text) (omega arith) in
+    record {
+      numbered = step.1;
+      is = known ∙ sym (get_or_lines text k below);
+      known = known;
+      below = below;
+      goes_on = record { size_is = step.0.0 ∙ at.size_is; rest_is = behind ∙ ap (λ n. drop (27 * n) text) (sym one); within = omega (arith, below) };
+      next = one;
+    }
+
+-- where nothing is left, all lines were taken
+pub after_lines : (text : List ℕ) (s t : Enumerate (Chunks ℕ)) → AtLine text s → enumerate_steps chunks_steps s None t → enumerate_count s ≡ line_count text
+after_lines text s t at step = omega (arith, step.0.1.0, at.within, ap length at.rest_is, length-drop (27 * enumerate_count s) text)
 
 pub length_written : (cs : List Command) → length (written cs) ≡ 27 * length cs
 length_written [] = refl
@@ -78,19 +166,13 @@ record Each (ps : List (List ℕ)) (cs : List Command) : Type 0 where
   all_proper : AllProper cs
   bytes : flat_map (λ (l : List ℕ). l) ps ≡ written cs
 
-pub head_same : {X : Type 0} (x y : X) (xs ys : List X) → (x ∷ xs) ≡ (y ∷ ys) → x ≡ y
-head_same x y xs ys h = cc
-
-pub tail_same : {X : Type 0} (x y : X) (xs ys : List X) → (x ∷ xs) ≡ (y ∷ ys) → xs ≡ ys
-tail_same x y xs ys h = cc
-
 each_line : (ps : List (List ℕ)) (cs : List Command) → map command_in ps ≡ map Some cs → Each ps cs
 each_line [] [] h = record { all_proper = tt; bytes = refl }
-each_line [] (c ∷ cs) h = let z : ◌≡◌ {A = ℕ} 0 1 = cc in absurd (omega arith)
-each_line (p ∷ ps) [] h = let z : ◌≡◌ {A = ℕ} 0 1 = cc in absurd (omega arith)
+each_line [] (c ∷ cs) h = cc
+each_line (p ∷ ps) [] h = cc
 each_line (p ∷ ps) (c ∷ cs) h =
-    let l = only_line p c (head_same _ _ (map command_in ps) (map Some cs) h) in
-    let r = each_line ps cs (tail_same (command_in p) (Some c) _ _ h) in
+    let l = only_line p c (cc) in
+    let r = each_line ps cs (cc) in
     record { all_proper = (l.is_proper, r.all_proper); bytes = λ i. l.bytes i ++ r.bytes i }
 
 pub only_so : (text : List ℕ) (cs : List Command) → ReadsAs text cs → TextOf cs text

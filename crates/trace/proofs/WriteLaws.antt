@@ -1,9 +1,11 @@
 -- Digits and lines, written part after part.
-use Rattle.std.proofs.Common.{◌≡◌, ℕ, zero, suc, ◌+◌, ◌*◌, ◌/◌, ◌%◌, ◌^◌, ◌<◌, ◌≤◌, Bool, true, false, not, ltb, List, [], ◌∷◌, ◌++◌, length, get_or, take, drop, set, None, Ok, Err, Result, sym, refl, ap, ◌∙◌, subst, append_assoc, div-one, add-one, arith}
+use Rattle.std.proofs.Common.{◌≡◌, ℕ, zero, suc, ◌+◌, ◌*◌, ◌/◌, ◌%◌, ◌^◌, ◌<◌, ◌≤◌, true, false, ltb, List, [], ◌∷◌, ◌++◌, length, get_or, take, drop, set, None, Ok, Err, Result, sym, refl, ap, ◌∙◌, subst, div-one, arith}
 use native.Mathlib.Nat.{pow-zero, pow-succ', div-div-eq-div-mul}
 use borrow.Rule.Slice.PartMut.{put_mid}
-use Rattle.std.proofs.lemmas.List.{drop-set, drop_more, drop_all, set_at, length-take-le, flat_map_more, take_more, take_all, take_at}
-use Rattle.sheet.specs.First.{first_from, first_place}
+use Rattle.std.proofs.lemmas.Bool.{not-false}
+use Rattle.std.proofs.lemmas.List.{drop_more, drop_all, set_at, length-take-le, flat_map_more, take_more, take_at}
+use Rattle.std.specs.List.{position_from}
+use Rattle.sheet.specs.First.{first_place}
 use Rattle.rulebook.specs.declared.command.Command.{Command}
 use Rattle.trace.specs.Digits.{digit, digits}
 use Rattle.trace.specs.Line.{proper, line_of}
@@ -17,20 +19,20 @@ use Rattle.trace.proofs.Told.{counted}
 use Rattle.trace.proofs.Parts.{Filled, part_length, grow}
 
 -- the last digit apart from those before it
-digits_last : (w n : ℕ) → digits (suc w) n ≡ digits w (n / 16) ++ digit (n % 16) ∷ []
+pub digits_last : (w n : ℕ) → digits (suc w) n ≡ digits w (n / 16) ++ digit (n % 16) ∷ []
 unfolding digits
 digits_last zero n = ap (λ q. digit (q % 16) ∷ []) (ap (λ p. n / p) (pow-zero 16) ∙ div-one n)
 digits_last (suc w) n = λ i.
     digit ((ap (λ p. n / p) (pow-succ' 16 w) ∙ sym (div-div-eq-div-mul n 16 (16 ^ w))) i % 16) ∷ digits_last w n i
 
--- one digit more, written from the right
-pub digit_more : (xs : List ℕ) (i k n y : ℕ) → k < length xs → i ≡ suc k → y ≡ digit (n % 16) → digits k (n / 16) ++ drop k (set xs k y) ≡ digits i n ++ drop i xs
-digit_more xs i k n y h e f =
-    ap (λ t. digits k (n / 16) ++ t) (drop-set xs k y h ∙ ap (λ m. y ∷ drop m xs) (add-one k))
-    ∙ sym (append_assoc (digits k (n / 16)) (y ∷ []) (drop (suc k) xs))
-    ∙ ap (λ z. (digits k (n / 16) ++ (z ∷ [])) ++ drop (suc k) xs) f
-    ∙ ap (λ t. t ++ drop (suc k) xs) (sym (digits_last k n))
-    ∙ ap (λ m. digits m n ++ drop m xs) (sym e)
+-- the last digit behind those before it
+pub digit_behind : (w k n y : ℕ) (front : List ℕ) → w ≡ suc k → front ≡ digits k (n / 16) → y ≡ digit (n % 16) → front ++ y ∷ [] ≡ digits w n
+digit_behind w k n y front h f e = (λ i. f i ++ e i ∷ []) ∙ sym (digits_last k n) ∙ ap (λ m. digits m n) (sym h)
+
+pub no_digits : (xs : List ℕ) (n : ℕ) → length xs ≡ 0 → xs ≡ digits (length xs) n
+unfolding digits
+no_digits [] n h = refl
+no_digits (x ∷ xs) n h = absurd (omega arith)
 
 -- a field's digits, written into its part
 pub field_more : {old front : List ℕ} {a : ℕ} {xs : List ℕ} (k n m : ℕ) (ys : List ℕ) → a + k ≤ length old → Filled old front a xs → m ≡ n → ys ≡ digits (length (take k (drop a xs))) m → Filled old (front ++ digits k n) (a + k) (put_mid a k xs ys)
@@ -59,23 +61,16 @@ line_more cs k d old xs ys m h w e y =
     ∙ ap (λ t. t ++ drop (27 * k + m) old) (flat_map_more line_of [] (take k cs) (get_or cs k d) ∙ ap written (sym (take_more cs k d h)))
     ∙ ap (λ n. written (take (k + 1) cs) ++ drop n old) (omega arith)
 
-pub line_all : (cs : List Command) (k : ℕ) (old xs : List ℕ) → k ≡ length cs → xs ≡ written (take k cs) ++ drop (27 * k) old → xs ≡ written cs ++ drop (27 * length cs) old
-line_all cs k old xs h e = e ∙ ap (λ t. written t ++ drop (27 * k) old) (take_all k cs (omega arith)) ∙ ap (λ n. written cs ++ drop (27 * n) old) h
-
 -- commands none of which is improper are proper
-true_by : (b : Bool) → not b ≡ false → b ≡ true
-true_by true e = refl
-true_by false e = cc
-
 is_proper : (c : Command) → improper c ≡ false → proper c ≡ true
 unfolding improper
-is_proper c e = true_by (proper c) e
+is_proper c e = not-false (proper c) e
 
-all_proper : (cs : List Command) (k : ℕ) → first_from improper k cs ≡ None → AllProper cs
+all_proper : (cs : List Command) (k : ℕ) → position_from improper k cs ≡ None → AllProper cs
 all_proper [] k h = tt
 all_proper (c ∷ cs) k h = (
-  is_proper c (false_by (improper c) k (first_from improper (k + 1) cs) h),
-  all_proper cs (k + 1) (rest_by (improper c) k (first_from improper (k + 1) cs) h),
+  is_proper c (false_by (improper c) k (position_from improper (k + 1) cs) h),
+  all_proper cs (k + 1) (rest_by (improper c) k (position_from improper (k + 1) cs) h),
 )
 
 pub written_so : (cs : List Command) (r : Result ℕ WriteRefusal) (old after : List ℕ) →

@@ -5,6 +5,10 @@ use Rattle.std.specs.Prelude.{ℕ, zero, suc, ◌+◌, ◌-◌, ◌*◌, ◌/◌
 unfoldable pub digit_value : ℕ → ℕ
 digit_value b = cond (nat_le 48 b && nat_le b 57) (b - 48) (cond (nat_le 65 b && nat_le b 70) (b - 55) 255)
 
+-- the value of a byte as a digit, if it is one
+abbrev pub digit_of : ℕ → Option ℕ
+digit_of b = cond (nat_le (digit_value b) 15) (Some (digit_value b)) None
+
 -- the number that bytes stand for behind the digits of n, if all are digits
 abbrev pub number_after : ℕ → List ℕ → Option ℕ
 number_after n [] = Some n

@@ -20,6 +20,10 @@ with_field w bs f = and_then (field_in w bs) (λ n. f n (drop w bs))
 abbrev pub Reads : ℕ → List ℕ → Option (ℕ × Bor (List ℕ)) → Type 0
 Reads w bs r = MatchOption r (field_in w bs ≡ None) (λ p. (field_in w bs ≡ Some p.0) × (p.1.now ≡ drop w bs) × (p.0 < 16 ^ w))
 
+-- an answer of something found at the front of a line, with the bytes behind it; none where it is not found
+abbrev pub ReadsThen : {X : Type 0} → Option X → List ℕ → Option (X × Bor (List ℕ)) → Type 0
+ReadsThen found behind r = MatchOption r (found ≡ None) (λ p. (found ≡ Some p.0) × (p.1.now ≡ behind))
+
 -- a line feed and nothing else
 abbrev pub is_feed : List ℕ → Bool
 is_feed [] = false

@@ -1,19 +1,14 @@
 // The sheet and the chip that a sheet line gives, or the first reason against them.
-ghost use Rattle.std.specs.Prelude.{◌≡◌};
-ghost use Rattle.trace.specs.Board.{board_number, board_place, board_told, board_made};
+ghost use Rattle.std.specs.Prelude.{◌≡◌, Some};
+ghost use Rattle.trace.specs.Board.{board_number, board_place, refusal_text, board_told, board_made};
+ghost use Rattle.trace.specs.declared.board.BoardRefusal.TheVariants.{Sheet as OfSheet, Chip as OfChip};
 
 use crate::sheet_line::read_sheet_line;
-use sheet::{Chip, ChipRefusal, Sheet, SheetRefusal};
-
-// What a line gives.
-#[derive(Clone, Copy)]
-pub struct Board {
-    pub sheet: Sheet,
-    pub chip: Chip,
-}
+use sheet::{Board, Chip, ChipRefusal, Sheet, SheetRefusal};
+use std::fmt;
 
 // Why a line gives no sheet and chip: the line is looked at first, then the sheet, then the chip.
-#[derive(Clone, Copy)]
+#[derive(Clone, Copy, Debug, PartialEq, Eq)]
 pub enum BoardRefusal {
     // The bytes are no sheet line.
     Malformed,
@@ -21,7 +16,26 @@ pub enum BoardRefusal {
     Chip(ChipRefusal),
 }
 
+// A sheet's refusal refuses the board.
+impl From<SheetRefusal> for BoardRefusal {
+    ghost from_gives = { λ why refusal. refusal ≡ OfSheet why };
+
+    fn from(of_sheet: SheetRefusal) -> BoardRefusal {
+        BoardRefusal::Sheet(of_sheet)
+    }
+}
+
+// So does a chip's.
+impl From<ChipRefusal> for BoardRefusal {
+    ghost from_gives = { λ why refusal. refusal ≡ OfChip why };
+
+    fn from(of_chip: ChipRefusal) -> BoardRefusal {
+        BoardRefusal::Chip(of_chip)
+    }
+}
+
 impl BoardRefusal {
+    // The number of the refusal. It has a name and is no `From`: `u8::from` would not say that it is the listed number.
     pub fn number(self) -> u8
         ensures { result ≡ board_number self }
     {
@@ -42,18 +56,25 @@ impl BoardRefusal {
     }
 }
 
+// A refusal is shown by its number, and the place that it carries. Of all refusals a board's and a text's are shown, since these are printed.
+impl fmt::Display for BoardRefusal {
+    ghost output = { λ why. Some (refusal_text why) };
+
+    fn fmt<W: fmt::Write>(&self, f: &mut fmt::Formatter<W>) -> fmt::Result {
+        let number = self.number();
+        match self.place() {
+            Some(place) => write!(f, "refused {number} at {place}"),
+            None => write!(f, "refused {number}"),
+        }
+    }
+}
+
 // The sheet and the chip of a sheet line.
 pub fn read_board(line: &[u8]) -> Result<Board, BoardRefusal>
     ensures { board_told result ≡ board_made line.now }
 {
-    let Some(fields) = read_sheet_line(line) else {
-        return Err(BoardRefusal::Malformed);
-    };
-    match Sheet::new(fields.period, fields.timings) {
-        Err(why) => Err(BoardRefusal::Sheet(why)),
-        Ok(sheet) => match Chip::new(fields.banks, fields.rows, fields.columns) {
-            Err(why) => Err(BoardRefusal::Chip(why)),
-            Ok(chip) => Ok(Board { sheet, chip }),
-        },
-    }
+    let fields = read_sheet_line(line).ok_or(BoardRefusal::Malformed)?;
+    let sheet = Sheet::new(fields.period, fields.timings)?;
+    let chip = Chip::new(fields.banks, fields.rows, fields.columns)?;
+    Ok(Board { sheet, chip })
 }

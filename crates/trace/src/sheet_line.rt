@@ -1,12 +1,13 @@
 // The sheet line: 119 digits and a line feed. Period 5; for each of the thirteen timings length 6 and count 2; banks 2, rows 5, columns 3.
-ghost use Rattle.std.specs.Prelude.{◌≡◌, drop, Some, None, MatchOption};
+ghost use Rattle.std.specs.Prelude.{◌≡◌, drop};
+ghost use Rattle.trace.specs.Fields.{ReadsThen};
 ghost use Rattle.trace.specs.SheetLine.{timing_in, timings_in, sizes_in, sheet_line_in, SheetOnlySo, SheetReadsBack};
 
-use crate::fields::{five_digits, is_feed, six_digits, three_digits, two_digits};
+use crate::fields::{digits, is_feed};
 use sheet::{Cycles, Picoseconds, Timing};
 
-// The fields of a sheet line, whatever their values are.
-#[derive(Clone, Copy)]
+// The fields of a sheet line, whatever their values are; the chip's sizes are apart until a chip is made of them.
+#[derive(Clone, Copy, Debug, PartialEq, Eq)]
 pub struct SheetLine {
     pub period: Picoseconds,
     pub timings: [Timing; 13],
@@ -16,7 +17,7 @@ pub struct SheetLine {
 }
 
 // The chip's sizes as a line gives them.
-#[derive(Clone, Copy)]
+#[derive(Clone, Copy, Debug, PartialEq, Eq)]
 pub(crate) struct Sizes {
     pub(crate) banks: u32,
     pub(crate) rows: u32,
@@ -32,10 +33,11 @@ pub fn read_sheet_line(line: &[u8]) -> Option<SheetLine>
     read_fields(line)
 }
 
+// The fields of a sheet line; a function of its own, so that a wrong field is refused here and the laws are added by its caller.
 fn read_fields(line: &[u8]) -> Option<SheetLine>
     ensures { result ≡ sheet_line_in line.now }
 {
-    let (period, rest) = five_digits(line)?;
+    let (period, rest) = digits::<5>(line)?;
     let (timings, rest) = read_timings(rest)?;
     let Sizes {
         banks,
@@ -53,17 +55,13 @@ fn read_fields(line: &[u8]) -> Option<SheetLine>
 
 // The thirteen timings, and the bytes that follow them.
 fn read_timings(line: &[u8]) -> Option<([Timing; 13], &[u8])>
-    ensures { MatchOption result (timings_in 13 line.now ≡ None) (λ p. (timings_in 13 line.now ≡ Some p.0) × (p.1.now ≡ drop 104 line.now)) }
+    ensures { ReadsThen (timings_in 13 line.now) (drop 104 line.now) result }
 {
-    let none = Timing {
-        length: Picoseconds::new(0),
-        least: Cycles::new(0),
-    };
-    let mut timings = [none; 13];
+    let mut timings = [Timing::from(Cycles::new(0)); 13];
     let mut rest = line;
-    for place in 0..13 {
-        let (timing, after) = read_timing(rest)?;
-        timings[place] = timing;
+    for timing in timings.iter_mut() {
+        let (read, after) = read_timing(rest)?;
+        *timing = read;
         rest = after;
     }
     Some((timings, rest))
@@ -71,10 +69,10 @@ fn read_timings(line: &[u8]) -> Option<([Timing; 13], &[u8])>
 
 // One timing, and the bytes that follow it.
 fn read_timing(line: &[u8]) -> Option<(Timing, &[u8])>
-    ensures { MatchOption result (timing_in line.now ≡ None) (λ p. (timing_in line.now ≡ Some p.0) × (p.1.now ≡ drop 8 line.now)) }
+    ensures { ReadsThen (timing_in line.now) (drop 8 line.now) result }
 {
-    let (length, rest) = six_digits(line)?;
-    let (least, rest) = two_digits(rest)?;
+    let (length, rest) = digits::<6>(line)?;
+    let (least, rest) = digits::<2>(rest)?;
     let timing = Timing {
         length: Picoseconds::new(length),
         least: Cycles::new(least),
@@ -86,9 +84,9 @@ fn read_timing(line: &[u8]) -> Option<(Timing, &[u8])>
 fn read_sizes(line: &[u8]) -> Option<Sizes>
     ensures { result ≡ sizes_in line.now }
 {
-    let (banks, rest) = two_digits(line)?;
-    let (rows, rest) = five_digits(rest)?;
-    let (columns, rest) = three_digits(rest)?;
+    let (banks, rest) = digits::<2>(line)?;
+    let (rows, rest) = digits::<5>(rest)?;
+    let (columns, rest) = digits::<3>(rest)?;
     if !is_feed(rest) {
         return None;
     }

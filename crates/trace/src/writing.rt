@@ -1,17 +1,20 @@
 // Writing commands as lines into a buffer that the caller lends.
 ghost use Rattle.std.specs.Prelude.{◌≡◌, ◌*◌, ◌<◌, ◌≤◌, ◌++◌, length, drop};
-ghost use Rattle.sheet.specs.First.{First, first_place};
+ghost use Rattle.sheet.specs.First.{first_place};
 ghost use Rattle.trace.specs.Digits.{digit, digits};
 ghost use Rattle.trace.specs.Line.{line_of};
-ghost use Rattle.trace.specs.Text.{no_command, written};
+ghost use Rattle.trace.specs.Text.{written};
 ghost use Rattle.trace.specs.Writing.{write_number, write_place, write_told, improper, writing, bytes_after, WrittenSo};
 
 use crate::cutting::LINE;
 use crate::line::is_proper;
 use rulebook::command::Command;
 
+// The byte of each digit.
+const DIGITS: [u8; 16] = *b"0123456789ABCDEF";
+
 // Why commands are not written; the first reason in this order is answered.
-#[derive(Clone, Copy)]
+#[derive(Clone, Copy, Debug, PartialEq, Eq)]
 pub enum WriteRefusal {
     // The buffer has fewer than 27 bytes for each command.
     Buffer,
@@ -20,6 +23,7 @@ pub enum WriteRefusal {
 }
 
 impl WriteRefusal {
+    // The number of the refusal. It has a name and is no `From`: `u8::from` would not say that it is the listed number.
     pub fn number(self) -> u8
         ensures { result ≡ write_number self }
     {
@@ -41,6 +45,7 @@ impl WriteRefusal {
 }
 
 // Writes the line of command k into the bytes 27 × k to 27 × k + 26, and answers the count of lines. All other bytes stay as they are, and every byte does where it is refused.
+// The buffer is lent and the answer counts its lines: by a rule of the project (docs/DECISIONS.md) nothing is allocated.
 pub fn write_lines(commands: &[Command], out: &mut [u8]) -> Result<usize, WriteRefusal>
     ensures answer { write_told result ≡ writing (length out.old) commands.now }
     ensures contents { out.new ≡ bytes_after commands.now result out.old }
@@ -49,7 +54,7 @@ pub fn write_lines(commands: &[Command], out: &mut [u8]) -> Result<usize, WriteR
     write_checked(commands, out)
 }
 
-// Looks at every record before the first byte is written.
+// Looks at every record before the first byte is written; a function of its own, so that a wrong decision is refused here and the laws are added by its caller.
 fn write_checked(commands: &[Command], out: &mut [u8]) -> Result<usize, WriteRefusal>
     ensures answer { write_told result ≡ writing (length out.old) commands.now }
     ensures contents { out.new ≡ bytes_after commands.now result out.old }
@@ -64,30 +69,16 @@ fn write_checked(commands: &[Command], out: &mut [u8]) -> Result<usize, WriteRef
     Ok(commands.len())
 }
 
+// The number of the first improper record; a function of its own, so that its caller has the clause.
+#[tactic(auto, unfolding(crate::specs::Writing::improper))]
 fn first_improper(commands: &[Command]) -> Option<usize>
     ensures { result ≡ first_place improper commands.now }
 {
-    find_improper(commands)
-}
-
-fn find_improper(commands: &[Command]) -> Option<usize>
-    ensures { First improper no_command commands.now result }
-{
-    for (place, command) in commands.iter().enumerate() {
-        if is_improper(*command) {
-            return Some(place);
-        }
-    }
-    None
-}
-
-fn is_improper(command: Command) -> bool
-    ensures { result ≡ improper command }
-{
-    !is_proper(command)
+    commands.iter().position(|command| !is_proper(*command))
 }
 
 // The commands' lines from the start of the buffer on.
+// The part of line k is named by its bytes' numbers: what a loop writes through `chunks_exact_mut` or `split_at_mut` no proof knows behind the loop.
 fn fill_lines(commands: &[Command], out: &mut [u8])
     requires { 27 * length commands.now ≤ length out.old }
     ensures { out.new ≡ written commands.now ++ drop (27 * length commands.now) out.old }
@@ -97,7 +88,7 @@ fn fill_lines(commands: &[Command], out: &mut [u8])
     }
 }
 
-// One line, into exactly its 27 bytes.
+// One line, into exactly its 27 bytes. The parts are named by their bytes, as the format names them.
 fn write_line(out: &mut [u8], command: Command)
     requires { length out.old ≡ 27 }
     ensures { out.new ≡ line_of command }
@@ -116,10 +107,9 @@ fn write_line(out: &mut [u8], command: Command)
 fn write_digits(out: &mut [u8], number: u32)
     ensures { out.new ≡ digits (length out.old) number }
 {
-    let mut rest = number;
-    for i in (0..out.len()).rev() {
-        out[i] = digit_byte(rest % 16);
-        rest /= 16;
+    if let Some((last, front)) = out.split_last_mut() {
+        *last = digit_byte(number % 16);
+        write_digits(front, number / 16);
     }
 }
 
@@ -128,9 +118,5 @@ fn digit_byte(value: u32) -> u8
     requires { value < 16 }
     ensures { result ≡ digit value }
 {
-    if value < 10 {
-        b'0' + value as u8
-    } else {
-        b'A' + (value as u8 - 10)
-    }
+    DIGITS[value as usize]
 }

@@ -1,8 +1,7 @@
 // One line: each byte at each place, and what each kind of command leaves 0.
 use crate::listing::COMMANDS;
-use crate::told::{INK, check_inked, parts, write_told};
+use crate::told::{INK, check_each, write_told};
 use rulebook::command::{Command, Kind};
-use std::test::Fail;
 use trace::line::{is_proper, read_line};
 use trace::writing::write_lines;
 
@@ -49,22 +48,14 @@ const IMPROPER: [(Kind, u8, u16, u16, u8, u32); 15] = [
 
 // Each byte is the digit 0.
 fn zeros(part: &[u8]) -> bool {
-    for byte in part {
-        if *byte != b'0' {
-            return false;
-        }
-    }
-    true
+    part.iter().all(|byte| *byte == b'0')
 }
 
 // Whether a line is well formed, by comparisons alone.
 fn well_formed(line: &[u8; 27]) -> bool {
-    for place in 0..26 {
-        let byte = line[place];
-        if byte < b'0' || byte > b'F' || byte > b'9' && byte < b'A' {
-            return false;
-        }
-    }
+    let digits = line[0..26]
+        .iter()
+        .all(|byte| matches!(byte, b'0'..=b'9' | b'A'..=b'F'));
     let blank = match line[8] {
         b'0' => zeros(&line[9..26]),
         b'1' => zeros(&line[14..17]),
@@ -72,13 +63,14 @@ fn well_formed(line: &[u8; 27]) -> bool {
         b'3' | b'4' => true,
         _ => false,
     };
-    blank && line[26] == 10
+    digits && blank && line[26] == 10
 }
 
 #[test]
 fn each_byte_at_each_place(rt: HostRuntime) {
     for good in LINES {
         assert!(rt; well_formed(&good));
+        // each place by its number, since it is there that the line is damaged
         for place in 0..27 {
             for byte in 0..=255u8 {
                 let mut line = good;
@@ -123,28 +115,30 @@ fn a_record_of_another_form_is_improper(rt: HostRuntime) {
         let mut out = [INK; 81];
         let given = [COMMANDS[0], command, command];
         assert_eq!(rt; write_told(write_lines(&given, &mut out)), (17, Some(1)));
-        check_inked(&rt, &out);
+        check_each(&rt, &out, INK);
     }
 }
 
 #[test]
-fn each_field_has_its_own_digits(rt: HostRuntime) -> Result<(), Fail> {
+fn each_field_has_its_own_digits(rt: HostRuntime) {
     let line = *b"1234567839ABCDEF02FEDCBA98\n";
-    let Some(command) = read_line(&line) else {
-        return Err(Fail::new("malformed"));
+    let command = Command {
+        cycle: 0x1234_5678,
+        kind: Kind::Read,
+        bank: 0x9,
+        row: 0xABCD,
+        column: 0xEF0,
+        requester: 0x2,
+        number: 0xFEDC_BA98,
     };
-    assert_eq!(rt;
-        parts(command),
-        [0x1234_5678, 3, 0x9, 0xABCD, 0xEF0, 0x2, 0xFEDC_BA98]
-    );
+    assert_eq!(rt; read_line(&line), Some(command));
     let mut out = [INK; 27];
     assert_eq!(rt; write_told(write_lines(&[command], &mut out)), (0, Some(1)));
     assert_eq!(rt; out, line);
-    Ok(())
 }
 
 #[test]
-fn the_largest_fields_come_back(rt: HostRuntime) -> Result<(), Fail> {
+fn the_largest_fields_come_back(rt: HostRuntime) {
     for (kind, line) in [
         (Kind::Read, *b"FFFFFFFF3FFFFFFFFFFFFFFFFF\n"),
         (Kind::Write, *b"FFFFFFFF4FFFFFFFFFFFFFFFFF\n"),
@@ -161,10 +155,6 @@ fn the_largest_fields_come_back(rt: HostRuntime) -> Result<(), Fail> {
         let mut out = [INK; 27];
         assert_eq!(rt; write_told(write_lines(&[largest], &mut out)), (0, Some(1)));
         assert_eq!(rt; out, line);
-        match read_line(&out) {
-            Some(command) => assert_eq!(rt; parts(command), parts(largest)),
-            None => return Err(Fail::new("malformed")),
-        }
+        assert_eq!(rt; read_line(&out), Some(largest));
     }
-    Ok(())
 }

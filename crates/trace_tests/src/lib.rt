@@ -8,4 +8,4 @@ mod listing; // a whole listing both ways
 #[cfg(test)]
 mod refusals; // what is refused, in which order, and that nothing is altered then
 #[cfg(test)]
-mod told; // commands and answers as plain numbers, to compare them by
+mod told; // answers as plain numbers, and what stands where nothing is written

@@ -1,15 +1,16 @@
 // A whole listing: two requests of two requesters to one bank, read and written.
-use crate::told::{INK, MARK, check_inked, check_marked, parts, read_told, write_told};
+use crate::told::{INK, MARK, check_each, read_told, write_told};
 use rulebook::command::{Command, Kind};
-use std::test::Fail;
 use trace::cutting::{line_at, line_count};
 use trace::line::{is_proper, read_line};
 use trace::reading::read_lines;
 use trace::writing::write_lines;
 
+// The listing as text.
 pub(crate) const TEXT: [u8; 135] =
     *b"00000001100007000000000000\n00000004300007010000000000\n00000009200000000100000000\n0000000C100009000100000000\n0000000F400009000100000000\n";
 
+// The listing as commands.
 pub(crate) const COMMANDS: [Command; 5] = [
     Command {
         cycle: 1,
@@ -62,25 +63,19 @@ pub(crate) const COMMANDS: [Command; 5] = [
 fn the_listing_is_read(rt: HostRuntime) {
     let mut records = [MARK; 7];
     assert_eq!(rt; read_told(read_lines(&TEXT, &mut records)), (0, Some(5)));
-    for k in 0..5 {
-        assert_eq!(rt; parts(records[k]), parts(COMMANDS[k]));
-    }
-    check_marked(&rt, &records[5..7]);
+    assert_eq!(rt; &records[0..5], &COMMANDS[..]);
+    check_each(&rt, &records[5..7], MARK);
     let mut exact = [MARK; 5];
     assert_eq!(rt; read_told(read_lines(&TEXT, &mut exact)), (0, Some(5)));
-    for k in 0..5 {
-        assert_eq!(rt; parts(exact[k]), parts(COMMANDS[k]));
-    }
+    assert_eq!(rt; exact, COMMANDS);
 }
 
 #[test]
 fn the_listing_is_written(rt: HostRuntime) {
     let mut out = [INK; 138];
     assert_eq!(rt; write_told(write_lines(&COMMANDS, &mut out)), (0, Some(5)));
-    for place in 0..135 {
-        assert_eq!(rt; out[place], TEXT[place]);
-    }
-    check_inked(&rt, &out[135..138]);
+    assert_eq!(rt; &out[0..135], &TEXT[..]);
+    check_each(&rt, &out[135..138], INK);
     let mut exact = [INK; 135];
     assert_eq!(rt;
         write_told(write_lines(&COMMANDS, &mut exact)),
@@ -90,20 +85,16 @@ fn the_listing_is_written(rt: HostRuntime) {
 }
 
 #[test]
-fn the_listing_line_by_line(rt: HostRuntime) -> Result<(), Fail> {
+fn the_listing_line_by_line(rt: HostRuntime) {
     assert_eq!(rt; line_count(&TEXT), 5);
-    for k in 0..5 {
+    for (k, command) in COMMANDS.iter().enumerate() {
         let line = line_at(&TEXT, k);
         assert_eq!(rt; line.len(), 27);
-        assert!(rt; is_proper(COMMANDS[k]));
-        match read_line(line) {
-            Some(command) => assert_eq!(rt; parts(command), parts(COMMANDS[k])),
-            None => return Err(Fail::new("malformed")),
-        }
+        assert!(rt; is_proper(*command));
+        assert_eq!(rt; read_line(line), Some(*command));
     }
     assert_eq!(rt; line_at(&TEXT, 5).len(), 0);
     assert_eq!(rt; line_at(&TEXT, usize::MAX).len(), 0);
-    Ok(())
 }
 
 #[test]

@@ -1,6 +1,6 @@
 // What is refused, in which order, and that nothing is altered then.
 use crate::listing::{COMMANDS, TEXT};
-use crate::told::{INK, MARK, check_inked, check_marked, read_told, write_told};
+use crate::told::{INK, MARK, check_each, read_told, write_told};
 use rulebook::command::Command;
 use std::process::Abort;
 use trace::reading::read_lines;
@@ -9,7 +9,7 @@ use trace::writing::write_lines;
 // What reading into these records answers, none of which may be altered.
 fn read_marked(rt: &impl Abort, text: &[u8], records: &mut [Command]) -> (u8, Option<usize>) {
     let answer = read_told(read_lines(text, records));
-    check_marked(rt, records);
+    check_each(rt, records, MARK);
     answer
 }
 
@@ -64,10 +64,10 @@ fn the_first_improper_record_is_told(rt: HostRuntime) {
     assert_eq!(rt; write_told(write_lines(&commands, &mut out)), (17, Some(4)));
     commands[2].row = 7;
     assert_eq!(rt; write_told(write_lines(&commands, &mut out)), (17, Some(2)));
-    check_inked(&rt, &out);
+    check_each(&rt, &out, INK);
     let mut short = [INK; 134];
     assert_eq!(rt; write_told(write_lines(&commands, &mut short)), (15, None));
-    check_inked(&rt, &short);
+    check_each(&rt, &short, INK);
 }
 
 #[test]
@@ -84,5 +84,5 @@ fn a_short_buffer_is_refused(rt: HostRuntime) {
     );
     assert_eq!(rt; write_told(write_lines(&[], &mut out)), (0, Some(0)));
     assert_eq!(rt; write_told(write_lines(&[], &mut [])), (0, Some(0)));
-    check_inked(&rt, &out);
+    check_each(&rt, &out, INK);
 }

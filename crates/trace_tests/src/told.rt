@@ -1,5 +1,6 @@
-// Commands and answers as plain numbers, to compare them by.
+// Answers as plain numbers, to compare them by, and what stands where nothing is written.
 use rulebook::command::{Command, Kind};
+use std::fmt::Debug;
 use std::process::Abort;
 use trace::reading::ReadRefusal;
 use trace::writing::WriteRefusal;
@@ -18,52 +19,25 @@ pub(crate) const MARK: Command = Command {
 // A byte that no line has.
 pub(crate) const INK: u8 = 170;
 
-// The parts of a command in the order of a line.
-pub(crate) fn parts(c: Command) -> [u32; 7] {
-    let kind = match c.kind {
-        Kind::Idle => 0,
-        Kind::Activate => 1,
-        Kind::Precharge => 2,
-        Kind::Read => 3,
-        Kind::Write => 4,
-    };
-    [
-        c.cycle,
-        kind,
-        u32::from(c.bank),
-        u32::from(c.row),
-        u32::from(c.column),
-        u32::from(c.requester),
-        c.number,
-    ]
-}
-
-// Each of the records is still the mark.
-pub(crate) fn check_marked(rt: &impl Abort, records: &[Command]) {
-    for record in records {
-        assert_eq!(rt; parts(*record), parts(MARK));
+// Each of the items is still what it was.
+pub(crate) fn check_each<T: Copy + Debug + PartialEq>(rt: &impl Abort, items: &[T], was: T) {
+    for item in items {
+        assert_eq!(rt; *item, was);
     }
 }
 
-// Each of the bytes is still the ink.
-pub(crate) fn check_inked(rt: &impl Abort, bytes: &[u8]) {
-    for byte in bytes {
-        assert_eq!(rt; *byte, INK);
-    }
+// What is told of a count that is answered.
+fn taken(count: usize) -> (u8, Option<usize>) {
+    (0, Some(count))
 }
 
 // What reading answers: 0 and the count of lines, or the refusal's number and the line that it carries.
 pub(crate) fn read_told(answer: Result<usize, ReadRefusal>) -> (u8, Option<usize>) {
-    match answer {
-        Ok(count) => (0, Some(count)),
-        Err(why) => (why.number(), why.line()),
-    }
+    answer.map_or_else(|why| (why.number(), why.line()), taken)
 }
 
 // What writing answers: 0 and the count of lines, or the refusal's number and the record that it carries.
+// One function for both would need a trait over the refusals, as one carries a line and the other a record, and be no shorter.
 pub(crate) fn write_told(answer: Result<usize, WriteRefusal>) -> (u8, Option<usize>) {
-    match answer {
-        Ok(count) => (0, Some(count)),
-        Err(why) => (why.number(), why.record()),
-    }
+    answer.map_or_else(|why| (why.number(), why.record()), taken)
 }

@@ -38,9 +38,7 @@ impl<P: Policy> Session<P> {
         if request.requester >= self.policy.requesters() {
             return Err(OfferRefusal::Requester);
         }
-        let Some(kind) = wanted_kind(&self.chip, request) else {
-            return Err(OfferRefusal::Request);
-        };
+        let kind = wanted_kind(&self.board.chip, request).ok_or(OfferRefusal::Request)?;
         if u64::from(self.clock - 1) + u64::from(self.policy.reach()) > u64::from(self.last) {
             return Err(OfferRefusal::Late);
         }
@@ -49,6 +47,7 @@ impl<P: Policy> Session<P> {
 }
 
 // Offers the policy a request of this kind, and counts it where the policy takes it.
+// It takes these parts of a session and not the whole, so that its contract speaks of what it changes alone.
 fn take_in<P: Policy>(
     policy: &mut P,
     counts: &mut Counts,
@@ -61,13 +60,9 @@ fn take_in<P: Policy>(
 {
     let number = counts.of(request.requester);
     let base = base_at(clock, policy.span(), stage);
-    match policy.offer(clock, base, as_entry(request, number, kind)) {
-        Ok(deadline) => {
-            counts.note(request.requester);
-            Ok(Receipt { number, deadline })
-        }
-        Err(_) => Err(OfferRefusal::Full),
-    }
+    let deadline = policy.offer(clock, base, as_entry(request, number, kind))?;
+    counts.note(request.requester);
+    Ok(Receipt { number, deadline })
 }
 
 // The cycle from which the spans of the waiting entries are counted: the one before the clock, or the last one that the service may take.
@@ -82,7 +77,7 @@ fn base_at(clock: u32, span: u32, stage: Stage) -> u64
     }
 }
 
-// The request as it is handed to the policy, which gives it its deadline.
+// The request as it is handed to the policy, which gives it its deadline. One type for an entry with its deadline and without: the policy writes it in place.
 fn as_entry(request: Request, number: u32, kind: Kind) -> Entry
     ensures { result ≡ entry_of request number kind }
 {

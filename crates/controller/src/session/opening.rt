@@ -8,24 +8,18 @@ use crate::engine::Engine;
 use crate::refusals::OpeningRefusal;
 use crate::session::Session;
 use policy::Policy;
-use sheet::{Chip, Sheet};
+use sheet::Board;
 
 impl<P: Policy> Session<P> {
-    // Opens a session at clock 1 with nothing in service, nothing accepted and nothing sent; whatever calls follow, it keeps all promises. A refusal hands the policy back.
-    pub fn open(
-        sheet: Sheet,
-        chip: Chip,
-        policy: P,
-        last: u32,
-    ) -> Result<Session<P>, (OpeningRefusal, P)>
-        ensures { MatchResult result (λ s. Opens P.meaning P.sound sheet chip last policy s) (λ e. HandsBack P.meaning sheet chip last policy e.0 e.1) }
+    // Opens a session at clock 1 with nothing in service, nothing accepted and nothing sent; whatever calls follow, it keeps all promises. A refusal hands the policy back, as a pair: a type for it would only be taken apart.
+    pub fn open(board: Board, policy: P, last: u32) -> Result<Session<P>, (OpeningRefusal, P)>
+        ensures { MatchResult result (λ s. Opens P.meaning P.sound board.sheet board.chip last policy s) (λ e. HandsBack P.meaning board.sheet board.chip last policy e.0 e.1) }
     {
-        if let Some(why) = refusal(&sheet, &chip, &policy, last) {
+        if let Err(why) = check(&board, &policy, last) {
             return Err((why, policy));
         }
         Ok(Session {
-            sheet,
-            chip,
+            board,
             policy,
             last,
             clock: 1,
@@ -35,18 +29,20 @@ impl<P: Policy> Session<P> {
     }
 }
 
-// The first reason against opening, if there is one.
-fn refusal<P: Policy>(sheet: &Sheet, chip: &Chip, policy: &P, last: u32) -> Option<OpeningRefusal>
-    ensures number { opening_refused result ≡ opening_refusal sheet.now chip.now last (P.meaning policy.now) }
+// Refused by the first reason against opening, if there is one.
+fn check<P: Policy>(board: &Board, policy: &P, last: u32) -> Result<(), OpeningRefusal>
+    ensures number { opening_refused result ≡ opening_refusal board.now.sheet board.now.chip last (P.meaning policy.now) }
 {
-    if policy.span() != sheet.span(chip).count() || u32::from(policy.banks()) != chip.banks {
-        return Some(OpeningRefusal::Shape);
+    if policy.span() != board.sheet.span(&board.chip).count()
+        || u32::from(policy.banks()) != board.chip.banks
+    {
+        return Err(OpeningRefusal::Shape);
     }
     if policy.clock() != 0 {
-        return Some(OpeningRefusal::Used);
+        return Err(OpeningRefusal::Used);
     }
-    if last < 1 || last > 4_000_000_000 {
-        return Some(OpeningRefusal::LastCycle);
+    if !(1..=4_000_000_000).contains(&last) {
+        return Err(OpeningRefusal::LastCycle);
     }
-    None
+    Ok(())
 }

@@ -29,8 +29,7 @@ impl<P: Policy> Session<P> {
         ensures { Passes P.meaning P.sound self.old result self.new }
     {
         begin(&mut self.engine.stage, &mut self.policy, self.clock);
-        let holds = self.policy.is_holding();
-        let command = self.engine.step(&self.sheet, &self.chip, holds, self.clock);
+        let command = self.engine.step(&self.board, P::HOLDS, self.clock);
         self.clock += 1;
         command
     }
@@ -49,11 +48,10 @@ fn begin<P: Policy>(stage: &mut Stage, policy: &mut P, clock: u32)
 fn stage_of(given: Option<Entry>, clock: u32) -> Stage
     ensures { result ≡ stage_from clock given }
 {
-    match given {
-        None => Stage::Idle,
-        Some(entry) => Stage::Serving(Service {
+    given.map_or(Stage::Idle, |entry| {
+        Stage::Serving(Service {
             entry,
             start: clock,
-        }),
-    }
+        })
+    })
 }

@@ -1,14 +1,13 @@
 // What the orders ask of their room, and how entries come and go in it.
-ghost use Rattle.std.specs.Prelude.{◌≡◌, ◌≤◌, max, true, [], length, drop};
+ghost use Rattle.std.specs.Prelude.{◌≡◌, ◌≤◌, max, true, [], length, drop, slice_get};
 ghost use Rattle.std.specs.List.{insert};
 ghost use Rattle.policy.specs.Meaning.{own, due_before};
 ghost use Rattle.policy.specs.Moves.{waiting_in, place_left, Moved};
-ghost use Rattle.policy.specs.Waiting.{entry_at};
 
 use crate::entry::Entry;
 use crate::numbers::Numbers;
-use crate::queue::Queue;
 use crate::room::Room;
+use arrayvec::ArrayVec;
 
 impl Room {
     // A room in which nothing waits and no call has come yet.
@@ -18,38 +17,20 @@ impl Room {
         ensures waits { waiting_in result ≡ [] }
     {
         Room {
-            queue: Queue::new(),
+            waiting: ArrayVec::new(),
             numbers,
             clock: 0,
         }
-    }
-
-    // What the policy was made for.
-    pub(crate) fn numbers(&self) -> Numbers
-        ensures { result ≡ self.now.numbers }
-    {
-        self.numbers
-    }
-
-    // The clock of the last turn asked or offer taken, 0 when new.
-    pub(crate) fn clock(&self) -> u32
-        ensures { result ≡ self.now.clock }
-    {
-        self.clock
-    }
-
-    // How many entries wait.
-    pub(crate) fn len(&self) -> usize
-        ensures { result ≡ length (waiting_in self.now) }
-    {
-        self.queue.len()
     }
 
     // How many entries of the requester wait.
     pub(crate) fn count(&self, requester: u8) -> usize
         ensures { result ≡ length (own requester (waiting_in self.now)) }
     {
-        self.queue.count(requester)
+        self.waiting
+            .iter()
+            .filter(|entry| entry.requester == requester)
+            .count()
     }
 
     // How many entries wait whose deadlines come before this one.
@@ -57,14 +38,10 @@ impl Room {
         ensures value { result ≡ length (due_before deadline (waiting_in self.now)) }
         ensures within { result ≤ length (waiting_in self.now) }
     {
-        self.queue.count_before(deadline)
-    }
-
-    // The entry that waits at the place, from 0, if one does.
-    pub(crate) fn at(&self, place: usize) -> Option<Entry>
-        ensures { result ≡ entry_at place (waiting_in self.now) }
-    {
-        self.queue.at(place)
+        self.waiting
+            .iter()
+            .filter(|entry| entry.deadline < deadline)
+            .count()
     }
 
     // Whether the requester has a place left.
@@ -72,7 +49,7 @@ impl Room {
         ensures { result ≡ place_left self.now requester }
     {
         requester < self.numbers.requesters
-            && self.queue.count(requester) < usize::from(self.numbers.places)
+            && self.count(requester) < usize::from(self.numbers.places)
     }
 
     // An offer is taken at this clock: its entry joins at the place.
@@ -80,16 +57,16 @@ impl Room {
         requires { (place_left self.old entry.requester ≡ true) × (place ≤ length (waiting_in self.old)) }
         ensures { Moved self.old clock (insert (waiting_in self.old) place entry) self.new }
     {
-        self.queue.insert(place, entry);
+        self.waiting.insert(place, entry);
         self.clock = noted(clock);
     }
 
     // A turn at this clock gives the first entry, if one waits.
     pub(crate) fn give(&mut self, clock: u32) -> Option<Entry>
-        ensures given { result ≡ entry_at 0 (waiting_in self.old) }
+        ensures given { result ≡ slice_get (waiting_in self.old) 0 }
         ensures moved { Moved self.old clock (drop 1 (waiting_in self.old)) self.new }
     {
-        let given = self.queue.pop_first();
+        let given = self.waiting.pop_at(0);
         self.clock = noted(clock);
         given
     }

@@ -1,28 +1,23 @@
-use Rattle.std.proofs.Common.{List, refl, subst, arith}
-use Rattle.std.proofs.lemmas.List.{take_all}
+use Rattle.std.proofs.Common.{◌≡◌, Err, sym, subst, rules}
 use Rattle.rulebook.proofs.Obeying.{nothing_obeys}
-use Rattle.rulebook.specs.declared.command.Command.{Command}
-use Rattle.checker.specs.Judging.{Clean}
+use Rattle.checker.specs.Judging.{Judged}
 use Rattle.checker.proofs.Steps.{admitted_at, refused_at}
 use Rattle.checker.proofs.records.judge_records.Goals as goal
 
 pub loop-line-init : goal.loop-line-init
 loop-line-init c = record {
   summary = c.new-book.ensures.summary;
-  clean = record { all_proper = tt; obeys = nothing_obeys c.args.sheet.now c.args.chip.now };
+  clean = record { all_proper = tt; obeys = nothing_obeys c.args.board.now.sheet c.args.board.now.chip };
 }
 
-pub returns-in-Err : goal.returns-in-Err
-returns-in-Err c =
-    refused_at c.args.sheet.now c.args.chip.now c.args.records.now c.loop-line.line c.loop-line.book _ c.in-Err.why c.loop-line-test.true c.loop-line.invariant c.in-Err.ensures
+pub returns-in_err-judge_record : goal.returns-in_err-judge_record
+returns-in_err-judge_record c =
+    let why = c.in_err-judge_record.field-0.0 in
+    let told : c.from_residual.result ≡ Err why = search rules in
+    subst (Judged c.args.board.now.sheet c.args.board.now.chip c.args.records.now) (sym told)
+    (refused_at c.args.board.now.sheet c.args.board.now.chip c.args.records.now c.loop-line.line c.loop-line.book _ why c.loop-line-test.true c.loop-line.invariant c.in_err-judge_record.ensures)
 
 pub loop-line-preserved : goal.loop-line-preserved
 loop-line-preserved c =
-    let j = c.in_default.ensures in
-    admitted_at c.args.sheet.now c.args.chip.now c.args.records.now c.loop-line.line _ c.loop-line.book _ _ c.loop-line-test.true c.loop-line.invariant j.0 j.1
-
-pub returns : goal.returns
-returns c =
-    let records = c.args.records.now in
-    let all = take_all c.loop-line.line records (omega arith) in
-    (refl, subst (λ (t : List Command). Clean c.args.sheet.now c.args.chip.now t) all c.loop-line.invariant.clean)
+    let j = c.in_ok-judge_record.ensures in
+    admitted_at c.args.board.now.sheet c.args.board.now.chip c.args.records.now c.loop-line.line _ c.loop-line.book _ _ c.loop-line-test.true c.loop-line.invariant j.0 j.1

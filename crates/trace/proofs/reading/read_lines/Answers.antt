@@ -1,14 +1,8 @@
 use Rattle.trace.proofs.ReadLaws.{read_only_so, reads_back}
 use Rattle.trace.proofs.reading.read_lines.Goals as goal
 
-pub returns : goal.returns
-returns c =
-    let text = c.args.text.now in
-    let old = c.args.records.now in
-    let read = c.read_checked.ensures in
-    record {
-      answer = read.answer;
-      contents = read.contents;
-      only_so = read_only_so text c.read_checked.result old _ read.answer read.contents;
-      reads_back = reads_back text c.read_checked.result old _ read.answer read.contents;
-    }
+pub returns-clause-only_so : goal.returns-clause-only_so
+returns-clause-only_so c = read_only_so c.args.text.now c.read_checked.result c.args.records.now _ c.read_checked.ensures.answer c.read_checked.ensures.contents
+
+pub returns-clause-reads_back : goal.returns-clause-reads_back
+returns-clause-reads_back c = reads_back c.args.text.now c.read_checked.result c.args.records.now _ c.read_checked.ensures.answer c.read_checked.ensures.contents

@@ -1,11 +1,9 @@
-use Rattle.std.proofs.Common.{rules}
+-- The table is `digit` at 0 to 15: antt computes both lists, and compares them.
+use Rattle.std.proofs.Common.{arith}
+use Rattle.std.proofs.lemmas.List.FromFn.{get_or-map-range_with_len}
 use Rattle.trace.specs.Digits.{digit}
 use Rattle.trace.proofs.writing.digit_byte.Goals as goal
 
-pub returns-then-value-lt10 : goal.returns-then-value-lt10
+pub returns : goal.returns
 unfolding digit
-returns-then-value-lt10 c = search rules
-
-pub returns-else-value-lt10 : goal.returns-else-value-lt10
-unfolding digit
-returns-else-value-lt10 c = search rules
+returns c = get_or-map-range_with_len digit 0 16 c.args.value c.args.value 0 (omega arith) (omega arith)

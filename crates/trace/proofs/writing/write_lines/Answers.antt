@@ -1,11 +1,5 @@
 use Rattle.trace.proofs.WriteLaws.{written_so}
 use Rattle.trace.proofs.writing.write_lines.Goals as goal
 
-pub returns : goal.returns
-returns c =
-    let wrote = c.write_checked.ensures in
-    record {
-      answer = wrote.answer;
-      contents = wrote.contents;
-      text = written_so c.args.commands.now c.write_checked.result c.args.out.now _ wrote.answer wrote.contents;
-    }
+pub returns-clause-text : goal.returns-clause-text
+returns-clause-text c = written_so c.args.commands.now c.write_checked.result c.args.out.now _ c.write_checked.ensures.answer c.write_checked.ensures.contents

@@ -1,10 +1,5 @@
-use Rattle.std.proofs.Common.{rules}
 use Rattle.controller.proofs.Passed.{steps}
 use Rattle.controller.proofs.session.Session.tick.Goals as goal
 
-pub returns : goal.returns
-returns g c = record {
-  refusal = search rules;
-  kept = tt;
-  steps = steps g.P.Policy.meaning g.P.Policy.sound g.met.P.Policy.shaped g.met.P.Policy.shortened _ _ _ c.if-self.false c.pass.ensures;
-}
+pub returns-clause-steps : goal.returns-clause-steps
+returns-clause-steps g c = steps g.P.Policy.meaning g.P.Policy.sound g.met.P.Policy.shaped g.met.P.Policy.shortened _ _ _ c.if-self.false c.pass.ensures
