@@ -1,5 +1,5 @@
 // The text that `judge` prints for a sheet line and a trace.
-ghost use Rattle.std.specs.Prelude.{◌≡◌, take, drop, Some, IfOk, string_bytes};
+ghost use Rattle.std.specs.Prelude.{take, drop, Some, IfOk, string_bytes};
 ghost use Rattle.report.specs.Judging.{people_text, GapAt, GapTold, JudgedAloud};
 
 use crate::gaps::{Near, missing_gap};

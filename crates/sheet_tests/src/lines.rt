@@ -13,23 +13,18 @@ fn refusal(line: &[u8]) -> u8 {
     read_board(line).err().map_or(0, |why| why.number())
 }
 
-// The value of a byte as a digit, 255 where it is none.
-fn value_of(byte: u8) -> u8 {
-    digit_value(byte).unwrap_or(255)
-}
-
 #[test]
 fn digits_are_upper_case(rt: HostRuntime) {
     for byte in 0..=255u8 {
         let upper = b"0123456789ABCDEF".contains(&byte);
-        assert_eq!(rt; value_of(byte) != 255, upper);
+        assert_eq!(rt; digit_value(byte) != 255, upper);
     }
-    assert_eq!(rt; value_of(b'0'), 0);
-    assert_eq!(rt; value_of(b'9'), 9);
-    assert_eq!(rt; value_of(b'A'), 10);
-    assert_eq!(rt; value_of(b'F'), 15);
-    assert_eq!(rt; value_of(b'a'), 255);
-    assert_eq!(rt; value_of(b'G'), 255);
+    assert_eq!(rt; digit_value(b'0'), 0);
+    assert_eq!(rt; digit_value(b'9'), 9);
+    assert_eq!(rt; digit_value(b'A'), 10);
+    assert_eq!(rt; digit_value(b'F'), 15);
+    assert_eq!(rt; digit_value(b'a'), 255);
+    assert_eq!(rt; digit_value(b'G'), 255);
 }
 
 #[test]

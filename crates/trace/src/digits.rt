@@ -41,19 +41,19 @@ const DIGIT_VALUES: [u8; 256] = [
     255,
 ];
 
-// The value of a byte as a digit: 0 to 9 and A to F, and none for every other byte.
-#[tactic(auto, using(std::proofs::lemmas::Bool::Decides::nat_tests), unfolding(crate::specs::Digits::digit_value))]
-pub fn digit_value(byte: u8) -> Option<u8>
-    ensures value { result ≡ digit_of byte }
-    ensures coded { unwrap_or result 255 ≡ digit_value byte }
-{
-    let value = table_value(byte);
-    (value < 16).then_some(value)
-}
-
-// What the table has for a byte.
-fn table_value(byte: u8) -> u8
+// The value of a byte as a digit, 255 where it is none. A call that always has a number: `digit_of` beside it says by an Option whether there is one.
+pub fn digit_value(byte: u8) -> u8
     ensures { result ≡ digit_value byte }
 {
     DIGIT_VALUES[byte as usize]
+}
+
+// The value of a byte as a digit: 0 to 9 and A to F, and none for every other byte.
+#[tactic(auto, using(std::proofs::lemmas::Bool::Decides::nat_tests), unfolding(crate::specs::Digits::digit_value))]
+pub fn digit_of(byte: u8) -> Option<u8>
+    ensures value { result ≡ digit_of byte }
+    ensures coded { unwrap_or result 255 ≡ digit_value byte }
+{
+    let value = digit_value(byte);
+    (value < 16).then_some(value)
 }

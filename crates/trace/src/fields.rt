@@ -2,7 +2,7 @@
 ghost use Rattle.trace.specs.Fields.{Reads, is_feed};
 ghost use Rattle.std.specs.Prelude.{◌≡◌, ◌≤◌};
 
-use crate::digits::digit_value;
+use crate::digits::digit_of;
 
 // The number of the first digits, as many as a field is wide, and the bytes that follow them.
 // By a rule of the project (docs/DECISIONS.md) a slice pattern names what comes first and the rest, so the loop goes by the pattern and not over a part that is cut off.
@@ -20,7 +20,7 @@ pub(crate) fn digits<const WIDTH: usize>(line: &[u8]) -> Option<(u32, &[u8])>
         let [first, after @ ..] = rest else {
             return None;
         };
-        let digit = digit_value(*first)?;
+        let digit = digit_of(*first)?;
         number = number * 16 + u32::from(digit);
         rest = after;
     }

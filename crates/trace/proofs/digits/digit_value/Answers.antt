@@ -2,7 +2,7 @@
 use Rattle.std.proofs.Common.{arith}
 use Rattle.std.proofs.lemmas.List.FromFn.{get_or-map-range_with_len}
 use Rattle.trace.specs.Digits.{digit_value}
-use Rattle.trace.proofs.digits.table_value.Goals as goal
+use Rattle.trace.proofs.digits.digit_value.Goals as goal
 
 pub returns : goal.returns
 unfolding digit_value
