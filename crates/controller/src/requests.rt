@@ -1,7 +1,7 @@
 // Whether a request is proper: a read or a write, inside the chip.
 ghost use Rattle.std.specs.Prelude.{◌≡◌};
 ghost use Rattle.machine.specs.Machine.{asked_kind};
-ghost use Rattle.controller.specs.Requests.{proper_kind};
+ghost use Rattle.controller.specs.Requests.{outside, proper_kind};
 
 use policy::Request;
 use rulebook::Kind;
@@ -11,7 +11,7 @@ use sheet::Chip;
 pub(crate) fn wanted_kind(chip: &Chip, request: Request) -> Option<Kind>
     ensures { result ≡ proper_kind chip.now request }
 {
-    if !chip.holds(request.bank, request.row, request.column) {
+    if is_outside(chip, request) {
         return None;
     }
     kind_asked(request.kind)
@@ -24,4 +24,11 @@ fn kind_asked(value: u8) -> Option<Kind>
     Kind::try_from(value)
         .ok()
         .filter(|kind| matches!(kind, Kind::Read | Kind::Write))
+}
+
+// Whether the address lies outside the chip.
+fn is_outside(chip: &Chip, request: Request) -> bool
+    ensures { result ≡ outside chip.now request }
+{
+    !chip.holds(request.bank, request.row, request.column)
 }

@@ -1,13 +1,22 @@
 // Two units of time as two types. They meet in one place, the conversion that rounds up.
-ghost use Rattle.std.specs.Prelude.{◌≡◌, ℕ, ◌*◌, ◌≤◌, max, Some, decimal, nat_lt};
+ghost use Rattle.std.specs.Prelude.{◌≡◌, ℕ, ◌*◌, ◌≤◌, Some, codes, decimal};
 ghost use Rattle.std.specs.Option.{option_map};
 ghost use Rattle.sheet.specs.Units.{picoseconds, cycles, rounded_up, period_of};
 
 use std::fmt;
 
 // A length of time in picoseconds. What it holds is read nowhere else, so it cannot stand beside a count of cycles.
-#[derive(Clone, Copy, Debug, PartialEq, Eq, PartialOrd, Ord)]
+#[derive(Clone, Copy, PartialEq, Eq, PartialOrd, Ord)]
 pub struct Picoseconds(u32);
+
+// A length is shown for debugging without its number, by hand: the derive would be a way to read it out.
+impl fmt::Debug for Picoseconds {
+    ghost debug_output = { λ _. Some (codes "Picoseconds(..)") };
+
+    fn fmt<W: fmt::Write>(&self, f: &mut fmt::Formatter<W>) -> fmt::Result {
+        f.write_str("Picoseconds(..)")
+    }
+}
 
 // A count of clock cycles.
 #[derive(Clone, Copy, Debug, PartialEq, Eq, PartialOrd, Ord)]
@@ -47,7 +56,7 @@ impl Picoseconds {
         ensures lasts { self.0 ≤ result.0 * period.length.0 }
         ensures least { (n : ℕ) → self.0 ≤ n * period.length.0 → result.0 ≤ n }
     {
-        Cycles(self.0.div_ceil(period.length.0))
+        Cycles(divided_up(self.0, period.length.0))
     }
 }
 
@@ -75,4 +84,12 @@ impl fmt::Display for Cycles {
         let count = self.0;
         write!(f, "{count}")
     }
+}
+
+// The quotient, rounded up; a function of its own, so that a wrong rounding is refused here and the laws are added by its caller.
+fn divided_up(length: u32, period: u32) -> u32
+    requires { 1 ≤ period }
+    ensures { result ≡ rounded_up length period }
+{
+    length.div_ceil(period)
 }

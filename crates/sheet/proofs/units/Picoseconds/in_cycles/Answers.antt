@@ -8,7 +8,7 @@ returns c =
     let length = c.args.self.0 in
     let period = c.args.period.length.0 in
     record {
-      value = ap cycles c.div_ceil.ensures;
-      lasts = lasts length period _ (omega arith) c.div_ceil.ensures;
-      least = λ n. least length period _ n (omega arith) c.div_ceil.ensures;
+      value = ap cycles c.divided_up.ensures;
+      lasts = lasts length period _ (omega arith) c.divided_up.ensures;
+      least = λ n. least length period _ n (omega arith) c.divided_up.ensures;
     }
