@@ -26,7 +26,7 @@ fn kind_asked(value: u8) -> Option<Kind>
         .filter(|kind| matches!(kind, Kind::Read | Kind::Write))
 }
 
-// Whether the address lies outside the chip.
+// Whether the address lies outside the chip; a function of its own, so that a contract says what lies outside.
 fn is_outside(chip: &Chip, request: Request) -> bool
     ensures { result ≡ outside chip.now request }
 {
